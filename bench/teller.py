@@ -7,7 +7,7 @@ TOP = os.path.dirname(os.path.dirname(os.path.abspath(__file__)))
 FOLDER = f"{TOP}/crates/check_runs"
 PROGRAM = f"{FOLDER}/out/check_runs"
 
-# A pause: its nanoseconds, what was logged before it, what it promoted, found dead, swept, moved and kept, and the free blocks behind it.
+# A pause: its nanoseconds, what was logged before it, what it promoted, found dead, swept, moved and kept, and the free blocks after it.
 Pause = namedtuple("Pause", "nanos logged promoted dead swept moved kept free")
 
 
@@ -25,7 +25,7 @@ def script(*threads):
 
 
 def looks(words, given):
-    """The nanoseconds to the first operation, and the numbers of each look before and behind a pause."""
+    """The nanoseconds to the first operation, and the numbers of each look before and after a pause."""
     done = subprocess.run([PROGRAM, "times", "--", *words.split()], input=given, stdout=subprocess.PIPE, check=True)
     status, first, *lines = done.stdout.decode().splitlines()
     if status != "-- status 0":

@@ -23,7 +23,7 @@ static struct object ***top;
 static struct pauses pauses;
 static double begun;
 
-/* What a pause is: from the beginning to the end of a collection. Sweeping goes on behind it, as objects are made. */
+/* What a pause is: from the beginning to the end of a collection. Sweeping goes on after it, as objects are made. */
 static void on_event(GC_EventType event) {
     if (event == GC_EVENT_START) begun = now();
     if (event == GC_EVENT_END) keep_pause(&pauses, now() - begun);

@@ -4,8 +4,8 @@
  * usage: heaps_lxr BLOCKS LIVE YOUNG
  *
  * In a heap of so many blocks lists of LIVE objects of four words are kept. Prints microseconds, the least of some: of a plain pause with
- * nothing to do; of one behind which YOUNG new objects are kept; of the two by which they are reclaimed when they are dropped; of one
- * behind which YOUNG objects were made and dropped; and of a collecting one. 0 0 0 prints the heading.
+ * nothing to do; of one after which YOUNG new objects are kept; of the two by which they are reclaimed when they are dropped; of one
+ * after which YOUNG objects were made and dropped; and of a collecting one. 0 0 0 prints the heading.
  */
 #include "bench.h"
 

@@ -256,9 +256,9 @@ fn recording() {
     row("  and its share of that pause", pauses, None);
 }
 
-/// New objects of four words, with a pause behind so many; of those since the last pause so many stay.
+/// New objects of four words, with a pause after so many; of those since the last pause so many stay.
 fn making() {
-    for (name, every, kept) in [("none is kept", 65_536, 0), ("none is kept, a pause behind 4,096", 4096, 0), ("of 65,536 the last 64 are kept", 65_536, 64)] {
+    for (name, every, kept) in [("none is kept", 65_536, 0), ("none is kept, a pause after 4,096", 4096, 0), ("of 65,536 the last 64 are kept", 65_536, 64)] {
         let mut heap = Heap::open(1024, 1);
         done(unsafe { lxr_set_pace(&mut heap.0, 48 * u64::from(every)) });
         let called = heap.time(CALLS, |heap, at| unsafe {

@@ -115,6 +115,7 @@ int main(int words_count, char **words) {
     settings.helpers = 0;
     settings.log = LXR_MOST_LOG;
     settings.every = LXR_MOST_EVERY;
+    settings.pace = LXR_PACE_NEVER;
     must(lxr_shared_heap_open(&heap, &settings));
     pthread_barrier_init(&barrier, NULL, count);
     for (uintptr_t at = 0; at < count; at++) pthread_create(&started[at], NULL, run, (void *)at);

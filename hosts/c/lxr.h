@@ -35,7 +35,7 @@ extern "C" {
 
 /* The version of this header, as lxr_version tells that of the archive. */
 #define LXR_VERSION_MAJOR 0u
-#define LXR_VERSION_MINOR 1u
+#define LXR_VERSION_MINOR 2u
 #define LXR_VERSION_PATCH 0u
 #define LXR_VERSION       (LXR_VERSION_MAJOR << 16 | LXR_VERSION_MINOR << 8 | LXR_VERSION_PATCH)
 
@@ -274,9 +274,16 @@ lxr_code lxr_set_pace(lxr_heap *heap, uint64_t bytes);
  */
 lxr_code lxr_count(const lxr_heap *heap, uint32_t what, uint64_t *number);
 
+/* Of heaps that threads share (lxr_threads.h, lxr_passes.h) one further count is the kind of the last pause. lxr_count has no such number. */
+#define LXR_COUNT_LAST_KIND 11u /* one of these: */
+#define LXR_KIND_PLAIN      0u  /* by counts alone */
+#define LXR_KIND_BEGIN      1u  /* it began a trace besides */
+#define LXR_KIND_END        2u  /* it ended a trace, and reclaimed what that found */
+#define LXR_KIND_COLLECT    3u  /* it reclaimed all that can't be reached */
+
 /* ---- Words for people ---- */
 
-/* What a code says, in a few words: a text that stands for good, of codes that there aren't too. */
+/* What a code says, in a few words: a text that stays valid; unknown codes have one too. */
 const char *lxr_message(lxr_code code);
 
 #ifdef __cplusplus

@@ -5,7 +5,7 @@
  * its own, as a runtime with threads that aren't the system's. None of them waits, starts a thread, or calls back.
  *
  * A heap has an ACTOR for each of its mutators, and two for each of its helpers: one lowers counts, one traces. Mutators have the numbers
- * from 0 on, behind them are those that lower counts, and then those that trace. The actor's PASS is what its steps are made by. It is at
+ * from 0 on, then come those that lower counts, and then those that trace. The actor's PASS is what its steps are made by. It is at
  * home, or away with a STATION, which one thread of the host has.
  *
  * Time goes in EPOCHS. Between two of them all passes are at home and pauses are made; while one is open, passes leave and come home as the
@@ -17,8 +17,8 @@
  *     lxr_station_come_home(station)            where an operation says LXR_E_WAITS or LXR_E_HELD, or lxr_station_wants_pause is 1
  *     lxr_passes_pause(heap)                    once all are at home, under the lock: closes the epoch
  *
- * Behind the next lxr_passes_resume, who was told LXR_E_WAITS leaves again and calls lxr_station_answer, for the reply; who was told
- * LXR_E_HELD makes the same call again.
+ * After the next lxr_passes_resume, the thread that was told LXR_E_WAITS leaves again and calls lxr_station_answer, for the reply; the one
+ * that was told LXR_E_HELD makes the same call again.
  *
  * A heap and a station are handles as `lxr_heap` is: two words that begin as zeros, which aren't copied or written to. Calls of a heap,
  * lxr_station_leave among them, are made one after another; those of a station by one thread at a time. All else is owed as for lxr.h. Each
@@ -62,7 +62,8 @@ typedef struct lxr_passes_settings {
 
 /*
  * Opens a heap. It is between epochs.
- * Codes: LXR_E_IN_USE, LXR_E_SIZE, where a setting is out of its range, or `size` none that is known; LXR_E_MEMORY. Cost: grows with the number of blocks.
+ * Codes: LXR_E_IN_USE, LXR_E_SIZE, where a setting is out of its range, or `size` none that is known; LXR_E_MEMORY. Cost: grows with the
+ * number of blocks.
  */
 lxr_code lxr_passes_open(lxr_passes *heap, const lxr_passes_settings *settings);
 
@@ -81,8 +82,8 @@ lxr_code lxr_passes_resume(lxr_passes *heap);
 
 /*
  * Closes the epoch and makes a pause, where one is wanted: a collecting one where lxr_station_ask_collect was called in the epoch. Each
- * lxr_station_new that waits has its object behind it, if there is room; where there is none, a collecting pause follows, and what then
- * finds no room is answered LXR_E_FULL. A mutator may be ordered 67,108,864 operations until all names are renewed: they are behind a pause
+ * lxr_station_new that waits has its object after it, if there is room; where there is none, a collecting pause follows, and what then
+ * finds no room is answered LXR_E_FULL. A mutator may be ordered 67,108,864 operations until all names are renewed: they are after a pause
  * that collects or ends a trace, where some mutator was ordered more than half as many and no lxr_station_new waited for the pause. Takes
  * no memory.
  * Codes: LXR_E_NO_HEAP; LXR_E_LOST; LXR_E_ENDED; LXR_E_EPOCH, where none is open; LXR_E_AWAY, where a pass is away; LXR_E_NOT_WANTED;
@@ -91,22 +92,17 @@ lxr_code lxr_passes_resume(lxr_passes *heap);
 lxr_code lxr_passes_pause(lxr_passes *heap);
 
 /*
- * What lxr_passes_count tells besides LXR_COUNT_PAUSES, _PROMOTED, _DEAD, _STUCK and _SWEPT of lxr.h. LXR_COUNT_PAUSES is the number of the
- * last pause, counted from the last renewal of names before it: right after a pause that renews names itself it is still counted from the
- * renewal before that, and 1 after the next pause.
+ * What lxr_passes_count tells besides LXR_COUNT_PAUSES, _PROMOTED, _DEAD, _STUCK, _SWEPT and _LAST_KIND of lxr.h. LXR_COUNT_PAUSES is the
+ * number of the last pause, counted from the last renewal of names before it: right after a pause that renews names itself it is still
+ * counted from the renewal before that, and 1 after the next pause.
  */
-#define LXR_COUNT_ASKED     12u /* operations of the mutator that was ordered most of them, since names were renewed: see LXR_E_USED_UP */
-#define LXR_COUNT_LAST_KIND 11u /* the kind of the last pause: */
-#define LXR_KIND_PLAIN      0u  /* by counts alone */
-#define LXR_KIND_BEGIN      1u  /* it began a trace besides */
-#define LXR_KIND_END        2u  /* it ended a trace, and reclaimed what that found */
-#define LXR_KIND_COLLECT    3u  /* it reclaimed all that can't be reached */
+#define LXR_COUNT_ASKED 12u /* operations of the mutator that was ordered most of them, since names were renewed: see LXR_E_USED_UP */
 
 /*
  * `*number` becomes one of these numbers of the last pause; before the first all are 0.
  * Codes: LXR_E_NO_HEAP, LXR_E_WHAT, LXR_E_EPOCH, where an epoch is open or the heap is lost. Cost: constant.
  */
-lxr_code lxr_passes_count(lxr_passes *heap, uint32_t what, uint64_t *number);
+lxr_code lxr_passes_count(const lxr_passes *heap, uint32_t what, uint64_t *number);
 
 /* ---- Stations ---- */
 
@@ -134,7 +130,7 @@ lxr_code lxr_station_close(lxr_station *station);
  * `*wants` becomes 1 where a pause is wanted, or the mutator does nothing more before one, and else 0; of a helper's it is 0.
  * Codes: LXR_E_NO_HEAP, LXR_E_HOME. Cost: constant.
  */
-lxr_code lxr_station_wants_pause(lxr_station *station, uint32_t *wants);
+lxr_code lxr_station_wants_pause(const lxr_station *station, uint32_t *wants);
 
 /*
  * Does up to so many units of a helper's work. `*more` becomes 1 where each of them found some, and else 0: then there is nothing further
@@ -148,7 +144,7 @@ lxr_code lxr_station_help(lxr_station *station, uint32_t units, uint32_t *more);
 /*
  * Each operation is one of lxr_threads.h, with the codes that are said there and these: LXR_E_NO_HEAP; LXR_E_REGISTER; LXR_E_SIZE;
  * LXR_E_HOME; LXR_E_KIND; LXR_E_ENDED; LXR_E_HELD, where a pause is wanted first: the operation isn't ordered; LXR_E_BUSY, where one that
- * waited has no answer yet; LXR_E_USED_UP; LXR_E_WAITS: it is ordered, and goes on behind a pause, by lxr_station_answer. Any register may
+ * waited has no answer yet; LXR_E_USED_UP; LXR_E_WAITS: it is ordered, and goes on after a pause, by lxr_station_answer. Any register may
  * be `dest`, so that register 0 holds the world at first alone.
  */
 lxr_code lxr_station_new(lxr_station *station, uint32_t dest, uint32_t refs, uint32_t words);

@@ -4,6 +4,7 @@
  * Each mutator has a station (lxr_passes.h), and its pass is away while its thread runs. Who finds that a pause is wanted brings its pass
  * home and waits; the last whose pass comes home makes the pause and opens the next epoch, under the heap's lock, and wakes all. A mutator
  * that rests has its pass at home, so that nobody waits for it. An operation takes no lock: it calls the archive and looks at the code.
+ * Nor does the pace: each mutator counts the bytes of its own objects, and asks for a pause by itself once it has made its share.
  *
  * What the lock guards: the heap's handle, how many passes are away, and what is marked so below. An epoch is open whenever the lock is
  * free, until the heap is lost.
@@ -30,6 +31,14 @@ enum {
     APART = 64, /* bytes that keep two mutators' counters off one cache line */
     TOLD = LXR_COUNT_SWEPT + 1,
 
+    /* Bytes: of a block, of a word, of a header, what objects are rounded up to; and between which LXR_PACE_ROOM is. */
+    BLOCK = LXR_BLOCK_WORDS * 8,
+    WORD = 8,
+    HEADER = 8,
+    GRAIN = 16,
+    LEAST_ROOM = 2 * BLOCK,
+    MOST_ROOM = 32 * BLOCK,
+
     /* From so many operations of some mutator on a collecting pause is made, so that names are renewed; and again after so many more. */
     WORN = LXR_OPERATIONS / 4 * 3,
     FURTHER = LXR_OPERATIONS / 1024
@@ -39,7 +48,8 @@ enum {
 struct place {
     bool taken;    /* guarded; what follows is, while it isn't taken */
     bool spoiled;  /* its registers weren't cleared: it isn't taken again */
-    uint32_t done; /* operations since the pause that opened this epoch: */
+    uint32_t done; /* operations, and .. */
+    uint64_t made; /* .. bytes of objects, since the pause that opened this epoch: */
     uint64_t epoch;
 };
 
@@ -55,6 +65,7 @@ struct lxr_shared_heap {
     pthread_mutex_t lock;
     pthread_cond_t moved; /* told where an epoch has opened, the heap is lost, or it is to be closed */
     lxr_shared_heap_settings settings;
+    uint64_t pace; /* bytes of objects between two pauses; the greatest number for no pace */
 
     /* Guarded. */
     lxr_passes passes;
@@ -65,7 +76,8 @@ struct lxr_shared_heap {
     struct timespec since;     /* .. since then */
     bool collecting;           /* it collects */
     bool lost, closing;
-    uint64_t told[TOLD];        /* what the last pause left to be counted */
+    uint64_t told[TOLD];        /* what the last pause left to be counted, */
+    uint64_t kind;              /* and its kind */
     uint64_t paused, collected; /* pauses, and collecting ones, since it was opened */
     uint64_t worn;              /* each mutator whose pass leaves collects, once some mutator was ordered so many operations .. */
     bool is_worn;               /* .. as by the last pause */
@@ -78,6 +90,8 @@ struct lxr_mutator {
     uint32_t left;    /* operations until it asks for a pause; 0: it makes none, its pass is at home, and each operation answers */
     lxr_code stopped; /* this code */
     uint32_t granted; /* what `left` and the pauses that it asked for began from */
+    uint64_t made;    /* bytes of its objects since `granted` was set .. */
+    uint64_t share;   /* .. until it asks for a pause */
     uint32_t number;
     bool collects;      /* after its next operation it asks for a collecting pause */
     uint64_t collected; /* collecting pauses, as its pass left its home */
@@ -109,6 +123,7 @@ static void note_pauses(lxr_shared_heap *heap) {
     heap->paused += made;
     heap->collected += made - (heap->collecting ? 0 : 1);
     heap->collecting = false;
+    lxr_passes_count(&heap->passes, LXR_COUNT_LAST_KIND, &heap->kind);
     lxr_passes_count(&heap->passes, LXR_COUNT_ASKED, &asked);
     heap->is_worn = asked >= heap->worn;
     if (heap->is_worn) heap->worn = asked + FURTHER;
@@ -126,7 +141,7 @@ static void make_pause(lxr_shared_heap *heap) {
     heap->epoch++;
     pthread_cond_broadcast(&heap->moved);
     if (paused && heap->settings.paused) {
-        lxr_pause_times times = { heap->paused, nanoseconds(heap->since, begun), nanoseconds(begun, now()) };
+        lxr_pause_times times = { heap->paused, nanoseconds(heap->since, begun), nanoseconds(begun, now()), heap->kind };
         heap->settings.paused(heap->settings.with, &times);
     }
 }
@@ -157,14 +172,29 @@ static lxr_code stop(lxr_mutator *mutator, lxr_code code) {
 static void count_done(lxr_mutator *mutator) {
     struct place *place = place_of(mutator);
     place->done += mutator->granted - mutator->left;
+    place->made += mutator->made;
     mutator->granted = mutator->left;
+    mutator->made = 0;
+}
+
+/* What is counted of a place begins anew with each epoch. The lock is held. */
+static void begin_epoch(lxr_shared_heap *heap, struct place *place) {
+    if (place->epoch == heap->epoch) return;
+    place->epoch = heap->epoch;
+    place->done = 0;
+    place->made = 0;
 }
 
 /* How many operations it may do until it asks for a pause: one at least, since one may wait for its answer. */
-static uint32_t grant(lxr_shared_heap *heap, struct place *place) {
-    if (place->epoch != heap->epoch) place->done = 0;
-    place->epoch = heap->epoch;
+static uint32_t grant(const lxr_shared_heap *heap, const struct place *place) {
     return place->done < heap->settings.every ? heap->settings.every - place->done : 1;
+}
+
+/* How many bytes of objects it may make until it asks for a pause: its part of the pace, less what it has made. */
+static uint64_t share(const lxr_shared_heap *heap, const struct place *place) {
+    if (heap->pace == UINT64_MAX) return heap->pace;
+    uint64_t part = heap->pace / heap->entered;
+    return place->made < part ? part - place->made : 0;
 }
 
 /* The mutator's pass leaves its home. The lock is held. */
@@ -173,8 +203,11 @@ static lxr_code take_out(lxr_mutator *mutator) {
     lxr_code code = heap->lost ? LXR_E_LOST : lxr_station_leave(&heap->passes, mutator->number, &mutator->station);
     if (code != LXR_OK) return stop(mutator, code);
     heap->away++;
+    begin_epoch(heap, place_of(mutator));
     mutator->collects = heap->is_worn;
     mutator->left = mutator->granted = mutator->collects ? 1 : grant(heap, place_of(mutator));
+    mutator->share = share(heap, place_of(mutator));
+    mutator->made = 0;
     mutator->collected = heap->collected;
     return LXR_OK;
 }
@@ -304,12 +337,27 @@ static inline lxr_code refusal_of(const lxr_mutator *mutator, uint32_t dest) {
     return code == LXR_OK && dest == 0 ? LXR_E_REGISTER : code;
 }
 
+/* Counts an object that the mutator has made; whether it has made its share, and so has no operation left after this one. */
+static inline bool count_made(lxr_mutator *mutator, uint32_t refs, uint32_t words) {
+    mutator->made += (HEADER + ((uint64_t)refs + words) * WORD + GRAIN - 1) / GRAIN * GRAIN;
+    if (mutator->made < mutator->share || mutator->left == 0) return false;
+    mutator->granted -= mutator->left - 1;
+    mutator->left = 1;
+    return true;
+}
+
 lxr_code lxr_mutator_new(lxr_mutator *mutator, uint32_t dest, uint32_t refs, uint32_t words) {
     uint64_t word = 0;
+    bool counted = false;
     lxr_code code = refusal_of(mutator, dest);
     if (code != LXR_OK) return code;
-    do code = lxr_station_new(&mutator->station, dest, refs, words);
-    while (again(mutator, &code, &word));
+    do {
+        code = lxr_station_new(&mutator->station, dest, refs, words);
+        counted = code == LXR_OK;
+        if (counted) count_made(mutator, refs, words);
+    } while (again(mutator, &code, &word));
+    /* One that waited for a pause was made after it, and counts to what follows. */
+    if (code == LXR_OK && !counted && count_made(mutator, refs, words)) meet_end(mutator);
     return code;
 }
 
@@ -433,9 +481,10 @@ static lxr_code take_number(lxr_mutator *mutator) {
         struct place *place = &heap->places[number];
         if (place->taken || place->spoiled) continue;
         mutator->number = number;
+        heap->entered++;
         lxr_code code = take_out(mutator);
         place->taken = code == LXR_OK;
-        heap->entered += place->taken;
+        if (!place->taken) heap->entered--;
         return code;
     }
     return LXR_E_NUMBER;
@@ -571,6 +620,14 @@ static bool are_settings(const lxr_shared_heap_settings *settings) {
            settings->helpers <= LXR_MOST_HELPERS && settings->every >= 1 && settings->every <= LXR_MOST_EVERY;
 }
 
+/* The pace in bytes that settings ask for. */
+static uint64_t pace_of(const lxr_shared_heap_settings *settings) {
+    uint64_t half = (uint64_t)settings->blocks * BLOCK / 2;
+    if (settings->pace == LXR_PACE_NEVER) return UINT64_MAX;
+    if (settings->pace != LXR_PACE_ROOM) return settings->pace;
+    return half < LEAST_ROOM ? LEAST_ROOM : half > MOST_ROOM ? MOST_ROOM : half;
+}
+
 /* Opens the heap and its first epoch. */
 static lxr_code open_passes(lxr_shared_heap *heap) {
     const lxr_shared_heap_settings *asked = &heap->settings;
@@ -614,6 +671,7 @@ static lxr_shared_heap *make_heap(const lxr_shared_heap_settings *settings) {
     lxr_shared_heap *heap = calloc(1, sizeof *heap);
     if (!heap) return NULL;
     heap->settings = *settings;
+    heap->pace = pace_of(settings);
     heap->worn = WORN;
     if (pthread_mutex_init(&heap->lock, NULL) != 0) {
         free(heap);
@@ -655,7 +713,8 @@ lxr_code lxr_shared_heap_close(lxr_shared_heap **handle) {
     return LXR_OK;
 }
 
-lxr_code lxr_shared_heap_count(lxr_shared_heap *heap, uint32_t what, uint64_t *number) {
+lxr_code lxr_shared_heap_count(const lxr_shared_heap *handle, uint32_t what, uint64_t *number) {
+    lxr_shared_heap *heap = (lxr_shared_heap *)handle; /* for the lock alone */
     lxr_code code = LXR_OK;
     if (!heap) return LXR_E_NO_HEAP;
     pthread_mutex_lock(&heap->lock);
@@ -669,6 +728,8 @@ lxr_code lxr_shared_heap_count(lxr_shared_heap *heap, uint32_t what, uint64_t *n
         *number = heap->entered;
     } else if (what == LXR_COUNT_RESTING) {
         *number = heap->resting;
+    } else if (what == LXR_COUNT_LAST_KIND) {
+        *number = heap->kind;
     } else {
         code = LXR_E_WHAT;
     }

@@ -48,14 +48,27 @@ typedef struct lxr_mutator lxr_mutator;
 #define LXR_MOST_EVERY         1000000u /* operations of a mutator between two pauses */
 #define LXR_MOST_TRACE         1000000u /* pauses from one trace to the next, and within one */
 
-/* How long a pause took; where a collecting one came right behind it, both. */
+/* How long a pause took; where a collecting one came right after it, both. */
 typedef struct lxr_pause_times {
     uint64_t number;    /* the number of the pause, from 1 on; of the last, where there are two */
     uint64_t gathering; /* nanoseconds from when the first thread waited for it until all had come */
     uint64_t pausing;   /* nanoseconds from there until they could go on */
+    uint64_t kind;      /* its kind, LXR_KIND_PLAIN and so on; that of the last, where there are two */
 } lxr_pause_times;
 
-/* What a heap is made of. The first word is the size of it all, as of lxr_settings. */
+/*
+ * What a heap is made of. The first word is the size of it all, as of lxr_settings.
+ *
+ * `pace` is a number of bytes of new objects, and a mutator's share of it is `pace` divided by the mutators that are in the heap, at rest or
+ * not, as this one enters or wakes, or goes on after a pause. Each counts its own bytes: those of the objects that it has made since the last
+ * pause, and that mutators have which had its place since then. An object has the bytes that lxr_set_pace says. Once they are its share, the
+ * mutator wants a plain pause, right after the lxr_mutator_new that made the last. So n mutators that are in the heap all the while make at
+ * most `pace` bytes, and one object each, between two pauses; and where only one of them makes objects, it wants a pause after an n-th of the
+ * pace. LXR_PACE_ROOM is half of the bytes of all blocks here, whatever lives, but at least 64 KB and at most 1 MB. By LXR_PACE_NEVER bytes
+ * want no pause.
+ *
+ * `every` counts operations besides. The archive bounds it, so a mutator wants a pause after LXR_MOST_EVERY operations at the latest.
+ */
 typedef struct lxr_shared_heap_settings {
     uint64_t size;     /* sizeof(lxr_shared_heap_settings) */
     uint32_t blocks;   /* blocks of 32 KB, 1 to 1,024 */
@@ -70,18 +83,20 @@ typedef struct lxr_shared_heap_settings {
     /* Told of each pause right after it, unless it is null, by the thread that made it. It waits for no thread and calls none of these. */
     void (*paused)(void *with, const lxr_pause_times *times);
     void *with; /* what it is told besides */
+
+    uint64_t pace; /* bytes of new objects between two pauses, or LXR_PACE_NEVER, or LXR_PACE_ROOM */
 } lxr_shared_heap_settings;
 
-/* Settings that mostly do, for so many blocks and mutators. */
+/* Settings that mostly do, for so many blocks and mutators: plain pauses come by the size of the heap, and traces by themselves. */
 #define LXR_SHARED_HEAP_SETTINGS(blocks, mutators) \
-    { sizeof(lxr_shared_heap_settings), (blocks), (mutators), 1, 1024, 65536, 65536, 16, 4, 0, 0 }
+    { sizeof(lxr_shared_heap_settings), (blocks), (mutators), 1, 1024, 65536, 65536, 16, 4, 0, 0, LXR_PACE_ROOM }
 
 /* ---- A heap ---- */
 
 /*
  * Opens a heap, and starts its helpers.
- * Codes: LXR_E_IN_USE, where the handle isn't null; LXR_E_SIZE, where a setting is out of its range, or `size` none that is known; LXR_E_MEMORY, which is the answer too
- * where the system starts no further thread. Cost: grows with the number of blocks.
+ * Codes: LXR_E_IN_USE, where the handle isn't null; LXR_E_SIZE, where a setting is out of its range, or `size` none that is known;
+ * LXR_E_MEMORY, which is the answer too where the system starts no further thread. Cost: grows with the number of blocks.
  */
 lxr_code lxr_shared_heap_open(lxr_shared_heap **heap, const lxr_shared_heap_settings *settings);
 
@@ -91,7 +106,7 @@ lxr_code lxr_shared_heap_open(lxr_shared_heap **heap, const lxr_shared_heap_sett
  */
 lxr_code lxr_shared_heap_close(lxr_shared_heap **heap);
 
-/* What lxr_shared_heap_count tells besides LXR_COUNT_PAUSES, _PROMOTED, _DEAD, _STUCK and _SWEPT of lxr.h. */
+/* What lxr_shared_heap_count tells besides LXR_COUNT_PAUSES, _PROMOTED, _DEAD, _STUCK, _SWEPT and _LAST_KIND of lxr.h. */
 #define LXR_COUNT_COLLECTING 8u  /* pauses that were collecting, since the heap was opened */
 #define LXR_COUNT_ENTERED    9u  /* mutators that are in it */
 #define LXR_COUNT_RESTING    10u /* of these, mutators that rest */
@@ -100,7 +115,7 @@ lxr_code lxr_shared_heap_close(lxr_shared_heap **heap);
  * `*number` becomes one of these numbers, as it stands after the last pause.
  * Codes: LXR_E_NO_HEAP, LXR_E_WHAT. Cost: constant, and a lock.
  */
-lxr_code lxr_shared_heap_count(lxr_shared_heap *heap, uint32_t what, uint64_t *number);
+lxr_code lxr_shared_heap_count(const lxr_shared_heap *heap, uint32_t what, uint64_t *number);
 
 /* ---- Mutators ---- */
 

@@ -264,7 +264,7 @@ private:
 
 }  // namespace detail
 
-/// Holds an object of a heap, or is nil. It is moved for nothing; `copy` takes another register for the same object.
+/// Holds an object of a heap, or is nil. Moving it costs nothing; `copy` takes another register for the same object.
 class root : public detail::holder<root, detail::state> {
 public:
     using holder::holder;

@@ -64,7 +64,15 @@ struct closes {
 
 }  // namespace detail
 
-/// Holds an object for a mutator, or is nil. It is moved for nothing; `copy` takes another register for the same object.
+/// What a pause was.
+enum class pause_kind : std::uint64_t {
+    plain = LXR_KIND_PLAIN,
+    begin = LXR_KIND_BEGIN,
+    end = LXR_KIND_END,
+    collect = LXR_KIND_COLLECT,
+};
+
+/// Holds an object for a mutator, or is nil. Moving it costs nothing; `copy` takes another register for the same object.
 class local : public detail::holder<local, detail::share> {
 public:
     using holder::holder;
@@ -87,11 +95,13 @@ public:
 /// A heap that threads share. It is moved and not copied, and that, as its end, while no mutator is in it.
 class shared_heap {
 public:
-    /// Opens a heap of 1 to 1,024 blocks of 32 KB, for 1 to 16 mutators at once, with the header's settings.
+    /// Opens a heap of 1 to 1,024 blocks of 32 KB, for 1 to 16 mutators at once, with the header's settings: plain pauses by the size of the
+    /// heap, and traces by themselves.
     shared_heap(std::uint32_t blocks, std::uint32_t mutators)
         : shared_heap(lxr_shared_heap_settings LXR_SHARED_HEAP_SETTINGS(blocks, mutators)) {}
 
-    /// Opens a heap, and starts its helpers. Its `paused` is told of each pause by the thread that made it, and throws nothing.
+    /// Opens a heap of these settings, among them the pace, and starts its helpers. Its `paused` is told of each pause by the thread that
+    /// made it, and throws nothing.
     explicit shared_heap(const lxr_shared_heap_settings& settings) {
         lxr_shared_heap* opened = nullptr;
         detail::done(lxr_shared_heap_open(&opened, &settings));
@@ -106,6 +116,9 @@ public:
     [[nodiscard]] std::uint64_t swept() const { return count(LXR_COUNT_SWEPT); }
     [[nodiscard]] std::uint64_t entered() const { return count(LXR_COUNT_ENTERED); }
     [[nodiscard]] std::uint64_t resting() const { return count(LXR_COUNT_RESTING); }
+
+    /// The kind of the last pause; plain before the first.
+    [[nodiscard]] pause_kind last_kind() const { return static_cast<pause_kind>(count(LXR_COUNT_LAST_KIND)); }
 
 private:
     friend class mutator;
@@ -124,8 +137,8 @@ private:
     std::unique_ptr<lxr_shared_heap, detail::closes> heap_;
 };
 
-/// A thread's registers in a heap, and its right to call: from here on it takes part in pauses, which wait for it. It is moved and not copied, and used by one
-/// thread at a time.
+/// A thread's registers in a heap, and its right to call: from here on it takes part in pauses, which wait for it. It is moved and not
+/// copied, and used by one thread at a time.
 class mutator {
 public:
     /// Enters a heap, with registers that are nil. `errc::number` says that as many mutators are in it as may be.
@@ -170,8 +183,8 @@ private:
     std::unique_ptr<detail::share> share_;
 };
 
-/// While it lives, its mutator holds up no pause, and its thread may block. No call is made for the mutator then: `errc::rests`. A local of it that ends
-/// lets go of its object once its register is used again.
+/// While it lives, its mutator holds up no pause, and its thread may block. No call is made for the mutator then: `errc::rests`. A local of
+/// it that ends lets go of its object once its register is used again.
 class [[nodiscard]] resting {
 public:
     explicit resting(mutator& mutator) : share_(mutator.share()) {

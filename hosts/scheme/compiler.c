@@ -3,7 +3,7 @@
  *
  * A procedure's variables stand in registers from their binding to the end of its scope, and what an expression is made of beside them. A
  * procedure captures the values of the variables around it when it is made; a variable that is assigned stands in a slot, which is captured
- * in its place. Sets of registers are bits of an unsigned number. What is compiled knows which registers are needed behind it (`live`), so
+ * in its place. Sets of registers are bits of an unsigned number. What is compiled knows which registers are needed after it (`live`), so
  * that a call's frame has these alone.
  *
  * Where too few registers are left, an expression becomes a procedure without parameters, and is called at once: what it uses is captured.
@@ -18,7 +18,7 @@ enum {
     MOVES_MOST = ARGUMENTS_MOST + 1,
     LETREC_REGISTERS = 4, /* so many variables of a letrec stand in registers; where there are more, all stand in slots */
     OUTSIDE = 2,          /* registers that it takes to make a procedure of an expression */
-    SPARE = 3             /* registers that are left free behind a binding */
+    SPARE = 3             /* registers that are left free after a binding */
 };
 
 /* A procedure that is compiled. */
@@ -615,7 +615,7 @@ static bool is_procedure(const Node *node, unsigned which) {
     return node->nodes[which]->kind == NODE_LAMBDA && !node->variables[which]->is_assigned;
 }
 
-/* What a letrec needs behind one of its first values. */
+/* What a letrec needs after one of its first values. */
 static unsigned needed_behind(const Unit *unit, const Node *node, unsigned which, unsigned live) {
     for (unsigned i = which + 1; i < node->count; i++) live |= registers_of(unit, node->nodes[i]);
     return live;

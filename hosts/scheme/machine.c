@@ -138,7 +138,7 @@ void machine_close(Machine *machine) {
     free(machine->text);
 }
 
-/* A call begins: what is needed behind it goes into a frame. */
+/* A call begins: what is needed after it goes into a frame. */
 static void push_frame(Machine *machine, uint64_t resume, unsigned needed, unsigned result) {
     unsigned references = 1, words = 1;
     for (unsigned left = needed; left; left &= left - 1) {

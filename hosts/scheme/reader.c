@@ -216,7 +216,7 @@ static Read read_items(Reader *reader, Datum *list, unsigned depth) {
             if (is_dot(item)) fault(item->at, "two dots in a list");
             list->tail = item;
         } else if (list->tail) {
-            fault(item->at, "two data behind a dot");
+            fault(item->at, "two data after a dot");
         } else if (is_dot(item)) {
             if (list->kind == DATUM_VECTOR || !items.count) fault(item->at, "a dot where none can stand");
             list->tail = item;
@@ -224,7 +224,7 @@ static Read read_items(Reader *reader, Datum *list, unsigned depth) {
             add_item(&items, item);
         }
     }
-    if (list->tail && is_dot(list->tail)) fault(list->tail->at, "nothing behind a dot");
+    if (list->tail && is_dot(list->tail)) fault(list->tail->at, "nothing after a dot");
     take(reader);
     list->items = items.list;
     list->count = items.count;
@@ -251,7 +251,7 @@ static Read read_quoted(Reader *reader, Datum **datum, const char *name, unsigne
     if (depth > DEPTH_MOST) fault(at, "quotes within quotes, more than %d deep", DEPTH_MOST);
     const Read read = read_at(reader, &item, depth + 1);
     if (read != READ_DATUM) {
-        if (read == READ_END && !reader->has_more) fault(at, "nothing behind a quote");
+        if (read == READ_END && !reader->has_more) fault(at, "nothing after a quote");
         return READ_UNFINISHED;
     }
     add_item(&items, word_at(at, PLAIN(KIND_SYMBOL, symbol_of(name, strlen(name)))));

@@ -54,6 +54,7 @@ impl<'a> Case<'a> {
             every: self.setting("every", 1024),
             trace: self.setting("trace", 8),
             within: self.setting("within", 4),
+            names: true,
         }
     }
 

@@ -17,10 +17,11 @@ is_free t n = not (t.outs n) && are_zero t.counts (GRANULES_IN_LINE * n) GRANULE
 abbrev pub free_in : Tables → ℕ → ℕ → Bool
 free_in t b i = is_free t (LINES_IN_BLOCK * b + i)
 
--- the first further line of an object that begins at a granule, and the line behind its last one
+-- the first further line of an object that begins at a granule
 abbrev pub next_line : ℕ → ℕ
 next_line granule = granule / GRANULES_IN_LINE + 1
 
+-- the line behind the last one of an object of so many granules that begins at a granule
 abbrev pub line_behind : ℕ → ℕ → ℕ
 line_behind granule granules = (granule + granules - 1) / GRANULES_IN_LINE + 1
 

@@ -26,8 +26,8 @@ use lxr_large_model::LargeReply;
 use lxr_layout::Shape;
 use std::alloc::Global;
 
-/// The version of these calls: 0.1.0.
-pub const VERSION: u32 = 0x00_01_00;
+/// The version of these calls: 0.2.0.
+pub const VERSION: u32 = 0x00_02_00;
 
 /// The number that a program gets for an answer.
 #[inline(always)]

@@ -3,7 +3,7 @@ ghost use Rattle.std.specs.Prelude.{◌≡◌, ℕ, Ok, Err, option_map, Result,
 ghost use Rattle.lxr_graph.specs.declared.Op.TheVariants as op;
 ghost use Rattle.lxr_c_base.specs.Codes.{code_in, flag, number_of, told, written_over};
 ghost use Rattle.lxr_c_shared.specs.Holding.{At};
-ghost use Rattle.lxr_c_shared.specs.Passing.{Answers, ClosesStation, ComesHome, HelpsBy, LetsOut, OrdersBy, SeesWanted, TellsBy, flag_of, only};
+ghost use Rattle.lxr_c_shared.specs.Passing.{Answers, ClosesStation, ComesHome, HelpsBy, LetsOut, OrdersBy, SeesWanted, Sent, TellsBy, flag_of, only, sent_code as is_sent_code};
 ghost use Rattle.lxr_c_base.specs.Requests as asking;
 ghost use Rattle.lxr_c_base.specs.Requests.{small_of as is_small_of};
 ghost use Rattle.lxr_c_shared.specs.Sharing.{ClosesHeap, CountsPause, OpensHeap, PausesHeap, ResumesHeap};
@@ -12,7 +12,7 @@ ghost use Rattle.lxr_c_shared.specs.declared.passing.Told.{Told as ToldOf};
 
 use lxr_c_base::requests::small_of;
 use lxr_c_base::{Code, requests};
-use lxr_c_shared::{Holder, Told, Wishes};
+use lxr_c_shared::{Holder, Told, Wishes, sent_code};
 use lxr_graph::Op;
 use std::alloc::Global;
 
@@ -110,9 +110,9 @@ pub extern "C" fn lxr_station_leave(
     number: u32,
     station: &mut Holder,
 ) -> u32
-    ensures { (answer : CodeOf) × LetsOut number station.old.held.value station.new.held.value heap.old.held.value answer × (heap.new.held.value ≡ heap.old.held.value) × (result ≡ number_of answer) }
+    ensures { (answer : Sent) × LetsOut number station.old.held.value station.new.held.value heap.old.held.value answer × (heap.new.held.value ≡ heap.old.held.value) × (result ≡ number_of (is_sent_code answer)) }
 {
-    heap.let_out(alloc, number, station).number()
+    sent_code(heap.let_out(alloc, number, station)).number()
 }
 
 /// Brings the station's pass home.
@@ -128,7 +128,7 @@ pub extern "C" fn lxr_station_come_home(alloc: Global, station: &mut Holder) -> 
 pub extern "C" fn lxr_station_close(alloc: Global, station: &mut Holder) -> u32
     ensures { (answer : CodeOf) × ClosesStation station.old.held.value station.new.held.value answer × (result ≡ number_of answer) }
 {
-    station.close_station(alloc).number()
+    station.close_station(alloc).0.number()
 }
 
 /// Writes whether a pause is wanted.

@@ -34,6 +34,7 @@ fn a_handle_without_a_heap_says_so(rt: HostRuntime) {
     }
     assert_eq!(rt; lxr_close(alloc, &mut heap), 0);
     assert_eq!(rt; answers_of_none(alloc, &mut heap), [1, 1, 1, 1]);
+    assert_eq!(rt; heap.end(alloc), Code::NoHeap);
 }
 
 /// An object with this word, behind reference 0 of the world.
@@ -65,6 +66,8 @@ fn two_heaps_hold_what_is_theirs(rt: HostRuntime) {
     assert_eq!(rt; lxr_collect(&mut one), 0);
     assert_eq!(rt; kept(&mut one), 11);
     assert_eq!(rt; kept(&mut two), 22);
+    assert_eq!(rt; one.end(alloc), Code::Done);
+    assert_eq!(rt; two.end(alloc), Code::Done);
 }
 
 #[test]
@@ -85,6 +88,7 @@ fn numbers_that_do_not_fit_are_told(rt: HostRuntime) {
         assert_eq!(rt; lxr_get(&mut heap, base, index, &mut word), code);
     }
     assert_eq!(rt; word, 7);
+    assert_eq!(rt; heap.end(alloc), Code::Done);
 }
 
 #[test]
@@ -102,6 +106,7 @@ fn a_full_heap_is_told_behind_a_pause(rt: HostRuntime) {
         full = full || lxr_new(&mut heap, register, 0, 1000) == 7;
     }
     assert!(rt; full);
+    assert_eq!(rt; heap.end(alloc), Code::Done);
 }
 
 #[test]
@@ -116,6 +121,7 @@ fn words_of_a_body_are_read_in_a_row(rt: HostRuntime) {
         assert_eq!(rt; lxr_large_read(&mut heap, 1, index, &mut words), code);
     }
     assert_eq!(rt; words, [5, 6]);
+    assert_eq!(rt; heap.end(alloc), Code::Done);
 }
 
 #[test]
@@ -128,4 +134,5 @@ fn a_heap_at_its_end_is_renewed(rt: HostRuntime) {
         heap.settle(Ends { made: 4, pauses: 9 });
         assert_eq!(rt; kept(&mut heap), round);
     }
+    assert_eq!(rt; heap.end(alloc), Code::Done);
 }

@@ -41,6 +41,14 @@ module _ (before after : Kept) where
   pub closes_some : (x : HostHeap) → before ≡ Some x → after ≡ None → Closes before after code.Done
   closes_some x had has = subst (λ k. Closes k after code.Done) (sym had) (refl, has)
 
+  -- a handle that was closed, or had no heap, has none
+  pub closed_to_none : (answer : Code) → Closes before after answer → after ≡ None
+  closed_to_none answer closed = closed_to before closed
+    where
+      closed_to : (kept : Kept) → Closes kept after answer → after ≡ None
+      closed_to None closes = closes.1
+      closed_to (Some x) closes = closes.1
+
   pub pauses_done : (x y : HostHeap) (collect : Bool) → before ≡ Some x → after ≡ Some y → ((h : List LargeItem) → IsHostOf x h → PausesAsked x y h collect) → AsksPause before after collect code.Done
   pauses_done x y collect had has done = subst (λ k. AsksPause k after collect code.Done) (sym had) (y, refl, has, done)
 

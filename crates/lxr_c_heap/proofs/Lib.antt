@@ -3,3 +3,4 @@ pub mod OperationLemmas
 pub mod PacingLemmas
 pub mod RoomLemmas
 pub mod CallLemmas
+pub mod CrossingLemmas

@@ -25,6 +25,7 @@ use Rattle.lxr_heap.proofs.NumberLemmas.{called_makes, called_pauses, paused_pau
 use Rattle.lxr_heap.proofs.WantingLemmas.{wanted_wants_none}
 use Rattle.lxr_c_heap.specs.declared.host.Ends.{Ends}
 use Rattle.lxr_c_heap.specs.declared.host.HostHeap.{HostHeap}
+use Rattle.lxr_c_heap.specs.declared.host.Seal.{Seal}
 use Rattle.lxr_c_heap.specs.declared.settings.Settings.{Settings}
 use Rattle.lxr_c_heap.specs.Hosting.{Acts, HasRoom, IsAtEnd, IsHostOf, IsOpened, IsServing, IsWithin, Needs, Pauses, PausesWhere, Replies, SettlesAt, behind_pause}
 use Rattle.lxr_c_heap.specs.declared.pacing.Pace.{Pace}
@@ -104,12 +105,12 @@ pub with_less : (objects pauses : ℕ) (x : HostHeap) → HasRoom objects (pause
 with_less objects pauses x room = record { holds = room.holds; made = room.made; paused = let few = room.paused in omega (arith, few); bytes = room.bytes }
 
 -- a heap that was opened has its pace from the first object on
-pub opened_with : (heap : Heap) (wanted : Settings) (pace : Pace) (limit : Option ℕ) → IsOpenedHeap heap wanted.blocks wanted.body_blocks → pace ≡ pace_of wanted.pace → limit ≡ limit_of pace heap
-    → IsOpened (record { heap = heap; pace = pace; limit = limit; bytes = 0; pauses = 0 }) wanted
-opened_with heap wanted pace limit opened is within = record {
+pub opened_with : (heap : Heap) (wanted : Settings) (pace : Pace) (limit : Option ℕ) (seal : Seal) → IsOpenedHeap heap wanted.blocks wanted.body_blocks → pace ≡ pace_of wanted.pace → limit ≡ limit_of pace heap
+    → IsOpened (record { heap = heap; pace = pace; limit = limit; bytes = 0; pauses = 0; seal = seal }) wanted
+opened_with heap wanted pace limit seal opened is within = record {
   heap = opened;
-  rest = ap (λ (p : Pace). record { heap = heap; pace = p; limit = limit; bytes = 0; pauses = 0 }) is
-      ∙ ap (λ (l : Option ℕ). record { heap = heap; pace = pace_of wanted.pace; limit = l; bytes = 0; pauses = 0 }) (within ∙ ap (λ p. limit_of p heap) is);
+  rest = ap (λ (p : Pace). record { heap = heap; pace = p; limit = limit; bytes = 0; pauses = 0; seal = seal }) is
+      ∙ ap (λ (l : Option ℕ). record { heap = heap; pace = pace_of wanted.pace; limit = l; bytes = 0; pauses = 0; seal = seal }) (within ∙ ap (λ p. limit_of p heap) is);
 }
 
 -- a heap without a history serves

@@ -48,7 +48,7 @@ pub record AreSettings (s : Settings) : Type 0 where
 -- a heap that was opened with settings: of their blocks, and with their pace from the first object on
 pub record IsOpened (x : HostHeap) (s : Settings) : Type 0 where
   pub heap : IsOpenedHeap x.heap s.blocks s.body_blocks
-  pub rest : x ≡ record { heap = x.heap; pace = pace_of s.pace; limit = limit_of (pace_of s.pace) x.heap; bytes = 0; pauses = 0 }
+  pub rest : x ≡ record { heap = x.heap; pace = pace_of s.pace; limit = limit_of (pace_of s.pace) x.heap; bytes = 0; pauses = 0; seal = x.seal }
 
 -- ---- pauses
 

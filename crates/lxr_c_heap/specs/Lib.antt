@@ -4,3 +4,4 @@ pub mod Keeping
 pub mod Lending
 pub mod Calling
 pub mod Looking
+pub mod Crossing

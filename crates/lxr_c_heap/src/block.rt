@@ -8,9 +8,8 @@ use lxr_c_base::Parts;
 use std::alloc::Global;
 use std::marker::Model;
 
-/// The heap at an address, or none.
+/// The heap at an address, or none. It has no `Drop`, so that no heap is forgotten.
 #[repr(C)]
-#[derive(Drop)]
 pub struct Block {
     ptr: *mut u8,
     alloc: Global,
@@ -20,6 +19,9 @@ pub struct Block {
 impl Model for Block {
     ghost also_owns = { λ b. block_owns b.alloc b.ptr b.value };
 }
+
+// SAFETY: it owns a heap in a box, or nothing, and neither names a thread: `handles_cross` ensures it.
+unsafe impl Send for Block {}
 
 impl Block {
     ghost use Rattle.lxr_c_heap.specs.Lending.{LendsHeap};
@@ -55,6 +57,13 @@ impl Block {
             ptr: ptr as *mut HostHeap,
             alloc,
         }
+    }
+
+    /// Lets go of a block, on the condition that there is no heap.
+    pub(crate) fn end(self)
+        requires { self.value ≡ None }
+    {
+        let Block { ptr: _, alloc: _ } = self;
     }
 
     /// Lends the heap to a call, on the condition that there is one.

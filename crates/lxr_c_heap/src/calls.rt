@@ -23,7 +23,10 @@ fn boxed(alloc: Global, wanted: &Settings) -> Option<Box<HostHeap, Global>>
     };
     match Box::new(alloc, heap) {
         Ok(heap) => Some(heap),
-        Err(_) => None,
+        Err(failed) => {
+            failed.value.close();
+            None
+        }
     }
 }
 
@@ -62,7 +65,7 @@ impl Handle {
         match self.take(alloc) {
             None => Code::NoHeap,
             Some(heap) => {
-                drop(heap);
+                Box::into_inner(heap).close();
                 Code::Done
             }
         }

@@ -10,9 +10,8 @@ use lxr_c_base::{Code, Parts};
 use std::alloc::Global;
 use std::mem;
 
-/// A heap, or none where the first word is 0.
+/// A heap, or none where the first word is 0. It has no `Drop`, so that no heap is forgotten.
 #[repr(C)]
-#[derive(Drop)]
 pub struct Handle {
     live: u64,
     pub block: Block,
@@ -22,7 +21,7 @@ pub struct Handle {
 }
 
 impl Handle {
-    ghost use Rattle.lxr_c_heap.specs.Calling.{SettlesHeap};
+    ghost use Rattle.lxr_c_heap.specs.Calling.{Closes, SettlesHeap};
 
     /// No heap.
     #[inline(always)]
@@ -63,6 +62,7 @@ impl Handle {
     {
         let Handle { live, block } = mem::replace(self, Handle::none(alloc));
         if live == 0 {
+            block.end();
             return None;
         }
         Some(block.into_parts().into_box())
@@ -75,10 +75,22 @@ impl Handle {
         requires serving { IsServing heap.value }
         ensures { self.new.block.value ≡ Some heap.value }
     {
-        *self = Handle {
+        let full = Handle {
             live: 1,
             block: Block::of_parts(Parts::of(heap)),
         };
+        let Handle { live: _, block } = mem::replace(self, full);
+        block.end();
+    }
+
+    /// Closes the heap, if there is one, and lets go of the handle.
+    pub fn end(mut self, alloc: Global) -> Code
+        ensures { Closes self.block.value None result }
+    {
+        let code = self.close(alloc);
+        let Handle { live: _, block } = self;
+        block.end();
+        code
     }
 
     /// Collects and gives all names anew where so many objects or pauses were made, as calls do at ends of their own.

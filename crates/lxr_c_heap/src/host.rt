@@ -26,8 +26,10 @@ pub const ENDS: Ends = Ends {
     pauses: 4_294_967_000,
 };
 
-/// The heap of a program.
-#[derive(Drop)]
+/// What nobody but this module has: only here a heap is taken apart. It has no `Drop`.
+struct Seal;
+
+/// The heap of a program. It has no `Drop`: it ends by `close`.
 pub struct HostHeap {
     pub heap: LargeHeap,
     /// When a plain pause is due before an object is made.
@@ -38,6 +40,7 @@ pub struct HostHeap {
     pub bytes: u64,
     /// How many pauses were made since the heap was opened, modulo 2^64.
     pub pauses: u64,
+    seal: Seal,
 }
 
 impl HostHeap {
@@ -55,7 +58,21 @@ impl HostHeap {
             pace,
             bytes: 0,
             pauses: 0,
+            seal: Seal,
         })
+    }
+
+    /// Ends it, and frees its memory.
+    pub(crate) fn close(self) {
+        let HostHeap {
+            heap,
+            pace: _,
+            limit: _,
+            bytes: _,
+            pauses: _,
+            seal: Seal,
+        } = self;
+        drop(heap);
     }
 
     /// Makes a pause.

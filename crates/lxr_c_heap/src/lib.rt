@@ -6,12 +6,14 @@
 mod block;
 mod calls;
 mod counts;
+mod crossing;
 mod handle;
 mod host;
 mod looks;
 mod pacing;
 mod settings;
 
+pub use crossing::handles_cross;
 pub use handle::Handle;
 pub use host::Ends;
 pub use settings::Settings;

@@ -1,3 +1,5 @@
 pub mod Holding
 pub mod Sharing
 pub mod Passing
+pub mod Crossing
+pub mod Ending

@@ -16,6 +16,8 @@ use Rattle.lxr_c_base.specs.declared.codes.Code.{Code}
 use Rattle.lxr_c_base.specs.declared.codes.Code.TheVariants as code
 use Rattle.lxr_c_shared.specs.declared.owned.Owned.{Owned}
 use Rattle.lxr_c_shared.specs.declared.owned.Owned.TheVariants as owned
+use Rattle.lxr_c_shared.specs.declared.passing.NotSent.{NotSent}
+use Rattle.lxr_c_shared.specs.declared.passing.NotSent.TheVariants as unsent
 use Rattle.lxr_c_shared.specs.declared.passing.Told.{Told}
 use Rattle.lxr_c_base.specs.Codes.{code_of, number_of, written_over}
 use Rattle.lxr_c_shared.specs.Holding.{At, MayHold}
@@ -54,38 +56,66 @@ not_out_code kept.NoSuch = code.Number
 not_out_code kept.Away = code.Away
 not_out_code (kept.Memory refused) = code.Memory
 
--- why no pass left: such a reason, or there is no memory for a station
-abbrev pub IsNotSent : Heaped → ℕ → Code → Type 0
-IsNotSent x n answer = (answer ≡ code.Memory) ⊎ ((why : NotOut) × IsKept x n why × (answer ≡ not_out_code why))
+-- what has come of the wish that a pass leave for a station: it left, or why not
+abbrev pub Sent : Type 0
+Sent = Result (Unit {0}) NotSent
+
+-- the code of why none leaves
+abbrev pub not_sent_code : NotSent → Code
+not_sent_code unsent.NoHeap = code.NoHeap
+not_sent_code unsent.InUse = code.InUse
+not_sent_code (unsent.Kept why) = not_out_code why
+not_sent_code (unsent.NoBox refused home) = code.Memory
+
+-- the code of what has come of that wish
+abbrev pub sent_code : Sent → Code
+sent_code (Ok left) = code.Done
+sent_code (Err why) = not_sent_code why
+
+-- why no pass leaves for a station that has its box: it isn't let out
+abbrev pub IsNotLetOut : Heaped → ℕ → NotSent → Type 0
+IsNotLetOut x n (unsent.Kept why) = IsKept x n why
+IsNotLetOut x n (unsent.NoBox refused home) = ⊥
+IsNotLetOut x n unsent.NoHeap = ⊥
+IsNotLetOut x n unsent.InUse = ⊥
+
+-- Why none leaves for a station whose box is to be made: it isn't let out; or it was, a box was refused (`NoBox`), which `boxed` alone answers, and it has
+-- come home again as it was.
+abbrev pub IsNotSent : Heaped → ℕ → NotSent → Type 0
+IsNotSent x n (unsent.Kept why) = IsKept x n why
+IsNotSent x n (unsent.NoBox refused home) = (s : Stationed) × IsPassOf x.stage n s × (home ≡ Some (Some s))
+IsNotSent x n unsent.NoHeap = ⊥
+IsNotSent x n unsent.InUse = ⊥
 
 -- it is a station with the pass of this number
 abbrev pub IsSentBy : Heaped → ℕ → Owned → Type 0
 IsSentBy x n o = (s : Stationed) × (o ≡ owned.Away s) × IsPassOf x.stage n s
 
--- the pass left its home for a station; or it didn't, and this is there as it was
-abbrev pub Leaves : Heaped → ℕ → MayHold → MayHold → Code → Type 0
-Leaves x n before after answer = ((o : Owned) × (answer ≡ code.Done) × (after ≡ Some o) × IsSentBy x n o) ⊎ ((after ≡ before) × IsNotSent x n answer)
+-- the pass left its home for a station; or for such a reason it didn't, and this is there as it was
+abbrev pub Leaves : (NotSent → Type 0) → Heaped → ℕ → MayHold → MayHold → Sent → Type 0
+Leaves IsReason x n before after (Ok left) = (o : Owned) × (after ≡ Some o) × IsSentBy x n o
+Leaves IsReason x n before after (Err why) = (after ≡ before) × IsReason why
 
 -- A pass was to leave for a station, which has none that is away.
-abbrev pub SendsPass : Heaped → ℕ → MayHold → MayHold → Code → Type 0
-SendsPass x n None after answer = Leaves x n None after answer
-SendsPass x n (Some owned.Home) after answer = Leaves x n (Some owned.Home) after answer
-SendsPass x n (Some o) after answer = (answer ≡ code.InUse) × (after ≡ Some o)
+abbrev pub SendsPass : Heaped → ℕ → MayHold → MayHold → Sent → Type 0
+SendsPass x n None after answer = Leaves (IsNotSent x n) x n None after answer
+SendsPass x n (Some (owned.Home h)) after answer = Leaves (IsNotLetOut x n) x n (Some (owned.Home h)) after answer
+SendsPass x n (Some o) after answer = (answer ≡ Err unsent.InUse) × (after ≡ Some o)
 
 -- a pass of a heap, which isn't changed, was to leave for a station
-abbrev pub LetsOutOf : ℕ → MayHold → MayHold → Owned → Code → Type 0
+abbrev pub LetsOutOf : ℕ → MayHold → MayHold → Owned → Sent → Type 0
 LetsOutOf n before after (owned.Shared x) answer = SendsPass x n before after answer
-LetsOutOf n before after x answer = (after ≡ before) × (answer ≡ code.NoHeap)
+LetsOutOf n before after x answer = (after ≡ before) × (answer ≡ Err unsent.NoHeap)
 
 -- the same where there may be no heap
-abbrev pub LetsOut : ℕ → MayHold → MayHold → MayHold → Code → Type 0
-LetsOut n before after None answer = (after ≡ before) × (answer ≡ code.NoHeap)
+abbrev pub LetsOut : ℕ → MayHold → MayHold → MayHold → Sent → Type 0
+LetsOut n before after None answer = (after ≡ before) × (answer ≡ Err unsent.NoHeap)
 LetsOut n before after (Some x) answer = LetsOutOf n before after x answer
 
--- a pass was to come home
+-- A pass was to come home: what the station has then is its homecoming, of the pass as it was.
 abbrev pub ComesHome : Owned → Owned → Code → Type 0
-ComesHome (owned.Away p) y answer = (y ≡ owned.Home) × (answer ≡ code.Done)
-ComesHome owned.Home y answer = (y ≡ owned.Home) × (answer ≡ code.Home)
+ComesHome (owned.Away p) y answer = (y ≡ owned.Home (Some (Some p))) × (answer ≡ code.Done)
+ComesHome (owned.Home h) y answer = (y ≡ owned.Home h) × (answer ≡ code.Home)
 ComesHome (owned.Shared x) y answer = (y ≡ owned.Shared x) × (answer ≡ code.NoHeap)
 
 -- whether it is a station
@@ -104,7 +134,7 @@ ClosesStation None after answer = (answer ≡ code.NoHeap) × (after ≡ None)
 -- Whether a pause is wanted was looked at: it is where the thread is held up, and isn't where it has ended, or for a helper.
 abbrev pub SeesWanted : Owned → Owned → Result Bool Code → Type 0
 SeesWanted (owned.Away p) y seen = (y ≡ owned.Away p) × (b : Bool) × (seen ≡ Ok b) × (IsHeldUp p.pass.actor → IsTrue b) × ((is_mutator p.pass.actor ≡ false) ⊎ HasEnded p.pass.actor → b ≡ false)
-SeesWanted owned.Home y seen = (y ≡ owned.Home) × (seen ≡ Err code.Home)
+SeesWanted (owned.Home h) y seen = (y ≡ owned.Home h) × (seen ≡ Err code.Home)
 SeesWanted (owned.Shared x) y seen = (y ≡ owned.Shared x) × (seen ≡ Err code.NoHeap)
 
 -- a helper did so many units, or as many as it found work for, and whether each found some; a thread's does none
@@ -115,7 +145,7 @@ HelpsPass units p q (Err e) = (is_mutator p.pass.actor ≡ true) × (q ≡ p) ×
 -- units of a helper were to be done
 abbrev pub HelpsBy : ℕ → Owned → Owned → Result Bool Code → Type 0
 HelpsBy units (owned.Away p) y answer = (q : Stationed) × (y ≡ owned.Away q) × HelpsPass units p q answer
-HelpsBy units owned.Home y answer = (y ≡ owned.Home) × (answer ≡ Err code.Home)
+HelpsBy units (owned.Home h) y answer = (y ≡ owned.Home h) × (answer ≡ Err code.Home)
 HelpsBy units (owned.Shared x) y answer = (y ≡ owned.Shared x) × (answer ≡ Err code.NoHeap)
 
 -- ---- operations
@@ -142,9 +172,9 @@ Orders p o q told = IsSameStation p q × (a : Answer) × HasAnswered p.pass o a 
 -- an operation was to be ordered
 abbrev pub Operates : SmallRequest → Owned → Owned → Told → Type 0
 Operates (Ok o) (owned.Away p) y told = (q : Stationed) × (y ≡ owned.Away q) × Orders p o q told
-Operates (Ok o) owned.Home y told = (y ≡ owned.Home) × (told ≡ only code.Home)
+Operates (Ok o) (owned.Home h) y told = (y ≡ owned.Home h) × (told ≡ only code.Home)
 Operates (Err e) (owned.Away p) y told = (y ≡ owned.Away p) × (told ≡ only e)
-Operates (Err e) owned.Home y told = (y ≡ owned.Home) × (told ≡ only e)
+Operates (Err e) (owned.Home h) y told = (y ≡ owned.Home h) × (told ≡ only e)
 Operates request (owned.Shared x) y told = (y ≡ owned.Shared x) × (told ≡ only code.NoHeap)
 
 -- an operation was to be ordered at what a program has, and it gets the number of its code
@@ -176,5 +206,5 @@ AnswersPass p q told =
 -- an answer was asked for
 abbrev pub Answers : Owned → Owned → Told → Type 0
 Answers (owned.Away p) y told = (q : Stationed) × (y ≡ owned.Away q) × AnswersPass p q told
-Answers owned.Home y told = (y ≡ owned.Home) × (told ≡ only code.Home)
+Answers (owned.Home h) y told = (y ≡ owned.Home h) × (told ≡ only code.Home)
 Answers (owned.Shared x) y told = (y ≡ owned.Shared x) × (told ≡ only code.NoHeap)

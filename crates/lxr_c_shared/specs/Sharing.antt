@@ -26,12 +26,12 @@ use Rattle.lxr_c_shared.specs.Holding.{MayHold}
 
 -- ---- opening
 
--- the settings that are wished for; none where their size isn't known, or there are more threads or helpers than any heap has
+-- The settings that are wished for; none where their size isn't known, or there are more threads or helpers than any heap has. No names are told.
 abbrev pub settings_of : Wishes → Option Settings
 settings_of w =
     if w.size == WISHES_BYTES
     then (if nat_lt 16 w.mutators || nat_lt 8 w.helpers then None
-    else Some (record { blocks = w.blocks; mutators = w.mutators; helpers = w.helpers; log = w.log; remember = w.remember; every = w.every; trace = w.trace; within = w.within }))
+    else Some (record { blocks = w.blocks; mutators = w.mutators; helpers = w.helpers; log = w.log; remember = w.remember; every = w.every; trace = w.trace; within = w.within; names = false }))
     else None
 
 -- they are settings, each in its range

@@ -7,9 +7,8 @@ use lxr_c_base::Parts;
 use std::alloc::Global;
 use std::marker::Model;
 
-/// What is at an address, or nothing.
+/// What is at an address, or nothing. It has no `Drop`, so that nothing is forgotten.
 #[repr(C)]
-#[derive(Drop)]
 pub struct Held {
     ptr: *mut u8,
     alloc: Global,
@@ -19,6 +18,9 @@ pub struct Held {
 impl Model for Held {
     ghost also_owns = { λ h. held_owns h.alloc h.ptr h.value };
 }
+
+// SAFETY: it owns a heap or a station in a box, or nothing, and none of them names a thread: `holders_cross` ensures it.
+unsafe impl Send for Held {}
 
 impl Held {
     /// Nothing.
@@ -52,5 +54,12 @@ impl Held {
             ptr: ptr as *mut Owned,
             alloc,
         }
+    }
+
+    /// Lets go of what has nothing.
+    pub(crate) fn end(self)
+        requires { self.value ≡ None }
+    {
+        let Held { ptr: _, alloc: _ } = self;
     }
 }

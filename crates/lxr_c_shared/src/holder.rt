@@ -8,9 +8,8 @@ use lxr_c_base::Parts;
 use std::alloc::Global;
 use std::mem;
 
-/// A heap or a station, or none where the first word is 0.
+/// A heap or a station, or none where the first word is 0. It has no `Drop`, so that nothing is forgotten.
 #[repr(C)]
-#[derive(Drop)]
 pub struct Holder {
     live: u64,
     pub held: Held,
@@ -38,6 +37,7 @@ impl Holder {
     {
         let Holder { live, held } = mem::replace(self, Holder::none(alloc));
         if live == 0 {
+            held.end();
             return None;
         }
         Some(held.into_parts().into_box())
@@ -49,9 +49,11 @@ impl Holder {
         requires { self.old.held.value ≡ None }
         ensures { self.new.held.value ≡ Some owned.value }
     {
-        *self = Holder {
+        let full = Holder {
             live: 1,
             held: Held::of_parts(Parts::of(owned)),
         };
+        let Holder { live: _, held } = mem::replace(self, full);
+        held.end();
     }
 }

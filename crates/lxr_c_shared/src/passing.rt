@@ -1,15 +1,16 @@
 //! What the calls of a program do at a station.
 ghost use Rattle.std.specs.Prelude.{◌≡◌, Some, Err, IfErr, IfOk};
-ghost use Rattle.lxr_shared_heap.specs.Heaps.{IsPassOf};
+ghost use Rattle.lxr_c_shared.specs.Ending.{homecoming_in};
 ghost use Rattle.lxr_c_shared.specs.Holding.{At};
-ghost use Rattle.lxr_c_shared.specs.Passing.{Answers, AnswersPass, ClosesStation, ComesHome, HelpsBy, HelpsPass, IsNotSent, IsRefusal, IsSentBy, LetsOut, LetsOutOf, Operates, Orders, SeesWanted, SendsPass, is_post, not_out_code as is_not_out_code, only as is_only, told_by as is_told_by, told_going as is_told_going, told_newest as is_told_newest, word_of as is_word_of};
+ghost use Rattle.lxr_c_shared.specs.Passing.{Answers, AnswersPass, ClosesStation, ComesHome, HelpsBy, HelpsPass, IsNotSent, IsRefusal, IsSentBy, LetsOut, LetsOutOf, Operates, Orders, SeesWanted, SendsPass, is_post, not_out_code as is_not_out_code, only as is_only, sent_code as is_sent_code, told_by as is_told_by, told_going as is_told_going, told_newest as is_told_newest, word_of as is_word_of};
 
+use crate::boxing::{NoBox, Unboxed, boxed};
 use crate::holder::Holder;
 use crate::owned::Owned;
 use lxr_c_base::{Code, code_of};
 use lxr_graph::{Op, Reply};
 use lxr_large_model::LargeReply;
-use lxr_shared_heap::{Answer, Heap, NotOut, Station};
+use lxr_shared_heap::{Answer, Heap, Homecoming, NotOut, Station};
 use std::alloc::Global;
 use std::mem;
 
@@ -18,6 +19,19 @@ use std::mem;
 pub struct Told {
     pub code: Code,
     pub word: Option<u64>,
+}
+
+/// Why no pass leaves for a station.
+#[derive(Drop)]
+pub enum NotSent {
+    /// There is no heap that it could leave.
+    NoHeap,
+    /// What it is to leave for is a heap, or a station whose pass is away.
+    InUse,
+    /// It isn't let out.
+    Kept(NotOut),
+    /// It left, and a box for the station was refused: it has come home again.
+    NoBox(NoBox, Option<Homecoming>),
 }
 
 /// What a code tells alone.
@@ -86,26 +100,31 @@ fn not_out_code(why: NotOut) -> Code
     }
 }
 
-/// Lets a pass out, or says why not.
-fn let_out(heap: &Heap, number: u32) -> Result<Station, Code>
-    ensures sent { IfOk result (λ station. IsPassOf heap.now.stage number station) }
-    ensures not { IfErr result (IsNotSent heap.now number) }
+/// The code of what has come of the wish that a pass leave for a station.
+pub fn sent_code(sent: Result<(), NotSent>) -> Code
+    ensures { result ≡ is_sent_code sent }
 {
-    match heap.let_out(number as usize) {
-        Ok(station) => Ok(station),
-        Err(why) => Err(not_out_code(why)),
+    match sent {
+        Ok(()) => Code::Done,
+        Err(NotSent::NoHeap) => Code::NoHeap,
+        Err(NotSent::InUse) => Code::InUse,
+        Err(NotSent::Kept(why)) => not_out_code(why),
+        Err(NotSent::NoBox(_, _)) => Code::Memory,
     }
 }
 
-/// A station in a box, with a pass that is let out.
-fn boxed_station(alloc: Global, heap: &Heap, number: u32) -> Result<Box<Owned, Global>, Code>
+/// A station in a box, with a pass that is let out. Where a box is refused the pass comes home again.
+fn boxed_station(alloc: Global, heap: &Heap, number: u32) -> Result<Box<Owned, Global>, NotSent>
     ensures sent { IfOk result (λ b. IsSentBy heap.now number b.value) }
     ensures not { IfErr result (IsNotSent heap.now number) }
 {
-    let station = let_out(heap, number)?;
-    match Box::new(alloc, Owned::Away(station)) {
+    let station = match heap.let_out(number as usize) {
+        Ok(station) => station,
+        Err(why) => return Err(NotSent::Kept(why)),
+    };
+    match boxed(alloc, Owned::of_station(station)) {
         Ok(owned) => Ok(owned),
-        Err(_) => Err(Code::Memory),
+        Err(Unboxed { owned, why }) => Err(NotSent::NoBox(why, owned.end())),
     }
 }
 
@@ -160,30 +179,30 @@ impl Owned {
     }
 
     /// Lets a pass of a heap out of its home, for this station.
-    fn send(&mut self, heap: &Heap, number: u32) -> Code
+    fn send(&mut self, heap: &Heap, number: u32) -> Result<(), NotSent>
         ensures { SendsPass heap.now number (Some self.old) (Some self.new) result }
     {
         match self {
-            Owned::Shared(_) => Code::InUse,
-            Owned::Away(_) => Code::InUse,
-            Owned::Home => match let_out(heap, number) {
+            Owned::Shared(_) => Err(NotSent::InUse),
+            Owned::Away(_) => Err(NotSent::InUse),
+            Owned::Home(_) => match heap.let_out(number as usize) {
                 Ok(station) => {
-                    *self = Owned::Away(station);
-                    Code::Done
+                    mem::replace(self, Owned::of_station(station)).end();
+                    Ok(())
                 }
-                Err(code) => code,
+                Err(why) => Err(NotSent::Kept(why)),
             },
         }
     }
 
     /// Lets the pass of a number out of its home, for a station.
-    fn let_out(&self, alloc: Global, number: u32, station: &mut Holder) -> Code
+    fn let_out(&self, alloc: Global, number: u32, station: &mut Holder) -> Result<(), NotSent>
         ensures { LetsOutOf number station.old.held.value station.new.held.value self.now result }
     {
         match self {
-            Owned::Shared(heap) => station.send(alloc, heap, number),
-            Owned::Home => Code::NoHeap,
-            Owned::Away(_) => Code::NoHeap,
+            Owned::Shared(sealed) => station.send(alloc, &sealed.heap, number),
+            Owned::Home(_) => Err(NotSent::NoHeap),
+            Owned::Away(_) => Err(NotSent::NoHeap),
         }
     }
 
@@ -191,15 +210,13 @@ impl Owned {
     fn come_home(&mut self) -> Code
         ensures { ComesHome self.old self.new result }
     {
-        match mem::replace(self, Owned::Home) {
-            Owned::Away(station) => {
-                station.come_home();
+        match self {
+            Owned::Shared(_) => Code::NoHeap,
+            Owned::Home(_) => Code::Home,
+            Owned::Away(_) => {
+                let homecoming = mem::replace(self, Owned::Home(None)).end();
+                mem::replace(self, Owned::Home(homecoming)).end();
                 Code::Done
-            }
-            Owned::Home => Code::Home,
-            Owned::Shared(heap) => {
-                *self = Owned::Shared(heap);
-                Code::NoHeap
             }
         }
     }
@@ -209,8 +226,8 @@ impl Owned {
         ensures { SeesWanted self.now self.now result }
     {
         match self {
-            Owned::Away(station) => Ok(station.wants_pause()),
-            Owned::Home => Err(Code::Home),
+            Owned::Away(sealed) => Ok(sealed.station.wants_pause()),
+            Owned::Home(_) => Err(Code::Home),
             Owned::Shared(_) => Err(Code::NoHeap),
         }
     }
@@ -220,8 +237,8 @@ impl Owned {
         ensures { HelpsBy units self.old self.new result }
     {
         match self {
-            Owned::Away(station) => help(station, units),
-            Owned::Home => Err(Code::Home),
+            Owned::Away(sealed) => help(&mut sealed.station, units),
+            Owned::Home(_) => Err(Code::Home),
             Owned::Shared(_) => Err(Code::NoHeap),
         }
     }
@@ -232,11 +249,11 @@ impl Owned {
         ensures { Operates request self.old self.new result }
     {
         match self {
-            Owned::Away(station) => match request {
-                Ok(op) => order(station, op),
+            Owned::Away(sealed) => match request {
+                Ok(op) => order(&mut sealed.station, op),
                 Err(code) => only(code),
             },
-            Owned::Home => match request {
+            Owned::Home(_) => match request {
                 Ok(_) => only(Code::Home),
                 Err(code) => only(code),
             },
@@ -249,8 +266,8 @@ impl Owned {
         ensures { Answers self.old self.new result }
     {
         match self {
-            Owned::Away(station) => answer(station),
-            Owned::Home => only(Code::Home),
+            Owned::Away(sealed) => answer(&mut sealed.station),
+            Owned::Home(_) => only(Code::Home),
             Owned::Shared(_) => only(Code::NoHeap),
         }
     }
@@ -268,34 +285,39 @@ fn help(station: &mut Station, units: u32) -> Result<bool, Code>
 
 impl Holder {
     /// Lets a pass of a heap out of its home, for this station.
-    fn send(&mut self, alloc: Global, heap: &Heap, number: u32) -> Code
+    fn send(&mut self, alloc: Global, heap: &Heap, number: u32) -> Result<(), NotSent>
         ensures { SendsPass heap.now number self.old.held.value self.new.held.value result }
     {
         if let Some(mut owned) = self.take(alloc) {
-            let code = owned.send(heap, number);
+            let sent = owned.send(heap, number);
             self.put(owned);
-            return code;
+            return sent;
         }
         match boxed_station(alloc, heap, number) {
             Ok(owned) => {
                 self.put(owned);
-                Code::Done
+                Ok(())
             }
-            Err(code) => code,
+            Err(why) => Err(why),
         }
     }
 
     /// Lets the pass of a number out of its home, for a station.
-    pub fn let_out(&mut self, alloc: Global, number: u32, station: &mut Holder) -> Code
+    pub fn let_out(
+        &mut self,
+        alloc: Global,
+        number: u32,
+        station: &mut Holder,
+    ) -> Result<(), NotSent>
         ensures done { LetsOut number station.old.held.value station.new.held.value self.old.held.value result }
         ensures kept { self.new.held.value ≡ self.old.held.value }
     {
         let Some(owned) = self.take(alloc) else {
-            return Code::NoHeap;
+            return Err(NotSent::NoHeap);
         };
-        let code = owned.let_out(alloc, number, station);
+        let sent = owned.let_out(alloc, number, station);
         self.put(owned);
-        code
+        sent
     }
 
     /// Brings the pass home.
@@ -310,19 +332,19 @@ impl Holder {
         code
     }
 
-    /// Ends the station; its pass comes home.
-    pub fn close_station(&mut self, alloc: Global) -> Code
-        ensures { ClosesStation self.old.held.value self.new.held.value result }
+    /// Ends the station; its pass comes home, and what it answers tells so.
+    pub fn close_station(&mut self, alloc: Global) -> (Code, Option<Homecoming>)
+        ensures closed { ClosesStation self.old.held.value self.new.held.value result.0 }
+        ensures home { result.1 ≡ homecoming_in self.old.held.value }
     {
         let Some(owned) = self.take(alloc) else {
-            return Code::NoHeap;
+            return (Code::NoHeap, None);
         };
         if !owned.is_station() {
             self.put(owned);
-            return Code::NoHeap;
+            return (Code::NoHeap, None);
         }
-        drop(owned);
-        Code::Done
+        (Code::Done, Box::into_inner(owned).end())
     }
 
     /// Whether a pause is wanted.

@@ -22,7 +22,8 @@ pub struct Wishes {
     pub within: u32,
 }
 
-/// The settings of a heap that are wished for; none where their size isn't known, or there are more threads or helpers than any heap has.
+/// The settings of a heap that are wished for; none where their size isn't known, or there are more threads or helpers than any heap has. No
+/// program in C sees a name, so none is told.
 pub(crate) fn settings_of(wishes: &Wishes) -> Option<Settings>
     ensures { result ≡ is_settings_of wishes.now }
 {
@@ -41,5 +42,6 @@ pub(crate) fn settings_of(wishes: &Wishes) -> Option<Settings>
         every: wishes.every,
         trace: wishes.trace,
         within: wishes.within,
+        names: false,
     })
 }

@@ -4,6 +4,7 @@ ghost use Rattle.lxr_graph.specs.History.{report_of};
 ghost use Rattle.lxr_c_shared.specs.Holding.{At};
 ghost use Rattle.lxr_c_shared.specs.Sharing.{AreFit, ClosesHeap, CountsAsked, CountsLast, CountsPause, IsNewHeap, IsOpenedBy, IsSizeOrMemory, OpensHeap, PausesHeap, ResumesHeap, is_shared, counted_in as is_counted_in, number_of_kind as is_number_of_kind, of_shared as is_of_shared, paused_code as is_paused_code, resumed_code as is_resumed_code};
 
+use crate::boxing::{Unboxed, boxed};
 use crate::holder::Holder;
 use crate::owned::Owned;
 use crate::settings::{Wishes, settings_of};
@@ -151,9 +152,12 @@ fn boxed_heap(alloc: Global, wishes: &Wishes) -> Result<Box<Owned, Global>, Code
     match open(alloc, wishes) {
         Err(Refused::Settings) => Err(Code::Size),
         Err(Refused::Memory) => Err(Code::Memory),
-        Ok(heap) => match Box::new(alloc, Owned::Shared(heap)) {
+        Ok(heap) => match boxed(alloc, Owned::of_heap(heap)) {
             Ok(owned) => Ok(owned),
-            Err(_) => Err(Code::Memory),
+            Err(Unboxed { owned, why: _ }) => {
+                owned.end();
+                Err(Code::Memory)
+            }
         },
     }
 }
@@ -171,8 +175,8 @@ impl Owned {
         ensures { ResumesHeap self.old self.new result }
     {
         match self {
-            Owned::Shared(heap) => resumed_code(heap.resume(alloc)),
-            Owned::Home => Code::NoHeap,
+            Owned::Shared(sealed) => resumed_code(sealed.heap.resume(alloc)),
+            Owned::Home(_) => Code::NoHeap,
             Owned::Away(_) => Code::NoHeap,
         }
     }
@@ -182,8 +186,8 @@ impl Owned {
         ensures { PausesHeap self.old self.new result }
     {
         match self {
-            Owned::Shared(heap) => paused_code(heap.pause()),
-            Owned::Home => Code::NoHeap,
+            Owned::Shared(sealed) => paused_code(sealed.heap.pause()),
+            Owned::Home(_) => Code::NoHeap,
             Owned::Away(_) => Code::NoHeap,
         }
     }
@@ -193,12 +197,12 @@ impl Owned {
         ensures { CountsPause number self.now self.now result }
     {
         match self {
-            Owned::Shared(heap) => match of_shared(number) {
-                Ok(OfShared::Pause(what)) => count_last(heap, what),
-                Ok(OfShared::Asked) => count_asked(heap),
+            Owned::Shared(sealed) => match of_shared(number) {
+                Ok(OfShared::Pause(what)) => count_last(&sealed.heap, what),
+                Ok(OfShared::Asked) => count_asked(&sealed.heap),
                 Err(code) => Err(code),
             },
-            Owned::Home => Err(Code::NoHeap),
+            Owned::Home(_) => Err(Code::NoHeap),
             Owned::Away(_) => Err(Code::NoHeap),
         }
     }
@@ -233,7 +237,7 @@ impl Holder {
             self.put(owned);
             return Code::NoHeap;
         }
-        drop(owned);
+        Box::into_inner(owned).end();
         Code::Done
     }
 

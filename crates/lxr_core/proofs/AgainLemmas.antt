@@ -1,15 +1,22 @@
 -- Actors that begin again, one after another.
-use Rattle.std.proofs.Common.{◌≡◌, ℕ, ◌+◌, ◌*◌, ◌<◌, ◌≤◌, refl, sym, ap, ◌∙◌, inl, inr, arith, List, length, length-set}
-use Rattle.std.specs.Prelude.{All, Some, slice_get, slice_set, slice_index_or, drop}
+use Rattle.std.proofs.Common.{◌≡◌, ℕ, ◌+◌, ◌*◌, ◌<◌, ◌≤◌, refl, sym, ap, ◌∙◌, inl, inr, arith, true, List, length, length-set, map}
+use Rattle.std.specs.Prelude.{All, Option, Some, slice_get, slice_set, slice_index_or, drop}
+use Rattle.std.proofs.lemmas.List.{length-map}
 use Rattle.std.proofs.lemmas.List.Elements.{All-drop, All-take}
 use Rattle.std.proofs.lemmas.Bool.Decides.{eqb_tells}
 use Rattle.std.proofs.lemmas.Option.{slice_get-get_or, slice_get_within}
 use Rattle.lxr_layout.specs.declared.Place.{Place}
 use Rattle.lxr_actor.proofs.Runs.{slice_get-set_other, slice_get-set_same}
-use Rattle.lxr_mutator.specs.Mutators.{IsHeld}
+use Rattle.lxr_mutator.specs.declared.phases.MutEnd.{MutEnd}
+use Rattle.lxr_mutator.specs.declared.phases.MutEnd.TheVariants as ends
+use Rattle.lxr_mutator.specs.Mutating.{rests_in}
+use Rattle.lxr_mutator.specs.Mutators.{IsHeld, phase_again}
 use Rattle.lxr_core.specs.declared.actors.AnyActor.{AnyActor}
 use Rattle.lxr_core.specs.declared.actors.AnyActor.TheVariants as any
-use Rattle.lxr_core.specs.Actors.{AreInOrder, mutators_in}
+use Rattle.lxr_core.specs.Actors.{AreInOrder, any_machine, mutators_in}
+use Rattle.lxr_core.specs.Closing.{AreResting}
+use Rattle.lxr_core.specs.Filling.{unfilled}
+use Rattle.lxr_core.proofs.MappedLemmas.{mapped}
 use Rattle.lxr_core.proofs.OrderLemmas.{mutator_at}
 use Rattle.lxr_core.specs.Starting.{HasRegisters, HaveStarted, MayAllStart, MayStart, registers_in, started_again}
 
@@ -65,3 +72,36 @@ one_more places before after n d x is less made =
       ];
       others = λ i past. slice_get-set_other after n i x (λ e. omega (arith, e, past)) ∙ is.others i (omega (arith, past));
     }
+
+-- ---- they rest
+
+-- a mutator is ready for its next unit, or is through
+mutator_rests : (e : Option MutEnd) → rests_in (phase_again e) ≡ true
+mutator_rests (Some ends.Ended) = refl
+mutator_rests e = refl
+
+-- an actor that begins again rests
+again_rests : (a : AnyActor) (registers : List Place) → any_machine.rests (started_again a registers) ≡ true
+again_rests (any.Mutator m) registers = mutator_rests m.end
+again_rests (any.Decrementer d) registers = refl
+again_rests (any.Tracer d) registers = refl
+
+-- whatever its pocket was filled with
+filled_rests : (a : AnyActor) → any_machine.rests a ≡ any_machine.rests (unfilled a)
+filled_rests (any.Mutator m) = refl
+filled_rests (any.Decrementer d) = refl
+filled_rests (any.Tracer d) = refl
+
+-- so all rest once all have begun again
+pub started_rest : (places : List Place) (before after : List AnyActor) → HaveStarted places before (map unfilled after) (length before) → AreResting after
+started_rest places before after have i x at =
+    let many = have.as_many in
+    let as_many = length-map after unfilled in
+    let inside = slice_get_within after i x at in
+    let below : i < length before = omega arith in
+    let now = have.started i (slice_index_or before i x) (slice_get-get_or before i x below) below in
+    let same = some_same (unfilled x) (started_again (slice_index_or before i x) (registers_in places i)) (sym (mapped unfilled after i x at) ∙ now) in
+    filled_rests x ∙ ap any_machine.rests same ∙ again_rests (slice_index_or before i x) (registers_in places i)
+  where
+    some_same : (a b : AnyActor) → Some a ≡ Some b → a ≡ b
+    some_same a b e = cc

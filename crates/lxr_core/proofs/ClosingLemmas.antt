@@ -10,7 +10,7 @@ use Rattle.lxr_layout.specs.declared.limits.Limits.{Limits}
 use Rattle.lxr_layout.specs.declared.runs.LogEntry.{LogEntry}
 use Rattle.lxr_layout.specs.declared.Place.{Place}
 use Rattle.lxr_base.specs.Roomy.{Roomy}
-use Rattle.lxr_graph.specs.History.{calls_of, replies_of}
+use Rattle.lxr_graph.specs.History.{Item, calls_of, replies_of}
 use Rattle.lxr_image.specs.declared.space.Space.{Space}
 use Rattle.lxr_image.specs.declared.space.Tally.{Tally}
 use Rattle.lxr_image.specs.Tables.{Tables, tables_in}
@@ -25,6 +25,7 @@ use Rattle.lxr_actor.specs.declared.Core.{Core}
 use Rattle.lxr_model.specs.Kinds.{collect_called}
 use Rattle.lxr_mutator.specs.Mutating.{IsWaiting, Mutating, has_collected, rests_in, tally_of}
 use Rattle.lxr_mutator.specs.Mutators.{IsIn, IsThrough, no_spans}
+use Rattle.lxr_mutator.specs.Naming.{all_told_as}
 use Rattle.lxr_mutator.specs.Steps.{shape_now}
 use Rattle.lxr_decrement.specs.declared.phases.DecrementerPhase.{DecrementerPhase}
 use Rattle.lxr_decrement.specs.declared.phases.DecrementerPhase.TheVariants as dec_phase
@@ -62,7 +63,7 @@ use Rattle.lxr_core_close.specs.Cause.{script_in}
 use Rattle.lxr_core_close.proofs.SafepointLemmas.{closing_reaches_safepoint, drawn_may_be_handed_out, drawn_was_free}
 use Rattle.lxr_core_close.proofs.CauseLemmas.{cause_follows}
 use Rattle.lxr_core_close.proofs.ProgressLemmas.{epoch_has_progress}
-use Rattle.lxr_core_sim_mutator.specs.Showing.{IsMutatorOf, IsNew, IsSteadyIn, reason_by, stage_in, thread_state_of}
+use Rattle.lxr_core_sim_mutator.specs.Showing.{HasTold, IsMutatorOf, IsNew, IsSteadyIn, reason_by, stage_in, thread_state_of, told_in}
 use Rattle.lxr_core_sim_helpers.specs.DecrementerShowing.{IsDecrementerOf, decrementing_in, decrementing_of}
 use Rattle.lxr_core_sim_helpers.specs.TracerShowing.{IsTracerOf, tracing_in, tracing_of}
 use Rattle.lxr_core.specs.declared.actors.AnyActor.{AnyActor}
@@ -78,6 +79,7 @@ use Rattle.lxr_core.proofs.CollectingLemmas.{all_given}
 use Rattle.lxr_core.proofs.MappedLemmas.{first_item, mapped, mapped_from, same_by_index}
 use Rattle.lxr_core.proofs.OpenedLemmas.{waits_for_new}
 use Rattle.lxr_core.proofs.ScriptLemmas.{full_as, one_script}
+use Rattle.lxr_core.proofs.ToldLemmas.{all_shown_told, all_told_collect, shown_in, shown_told, told_as_kept, told_end, told_length, told_state}
 use Rattle.lxr_core.proofs.OrderLemmas.{SameKind, alike_order, helper_from, mutator_from, tracer_from, two_helpers, two_mutators, two_tracers}
 
 -- ---- what is known where an epoch may be closed
@@ -86,11 +88,12 @@ use Rattle.lxr_core.proofs.OrderLemmas.{SameKind, alike_order, helper_from, muta
 pub record IsEnd (b : Beginning) (s : EpochState) (space : Space) (actors : List AnyActor) : Type 0 where
   pub epoch : IsEpoch b s
   pub tables : tables_of space ≡ s.tables
-  pub thread_states : s.thread_states ≡ map thread_state_of (mutators_in actors)
+  pub thread_states : s.thread_states ≡ map (told_state s.history) (mutators_in actors)
   pub decrementers : s.decrementers ≡ map decrementing_of (decrementers_in actors)
   pub tracers : s.tracers ≡ map tracing_of (tracers_in actors)
   pub order : AreInOrder actors
   pub mutators : (i : ℕ) (m : Mutating) → slice_get (mutators_in actors) i ≡ Some m → IsMutatorOf (limits_of b) m
+  pub told : (i : ℕ) (m : Mutating) → slice_get (mutators_in actors) i ≡ Some m → HasTold s.history m
   pub helpers : (i : ℕ) (d : DecrementerState) → slice_get (decrementers_in actors) i ≡ Some d → IsDecrementerOf (limits_of b) d
   pub are_tracers : (i : ℕ) (d : TracerState) → slice_get (tracers_in actors) i ≡ Some d → IsTracerOf (limits_of b) d
   pub space_is : space ≡ record b.space { words = space.words }
@@ -104,11 +107,12 @@ is_end b execution cleared space actors may is =
     record {
       epoch = is.epoch;
       tables = ap (λ (l : Limits). tables_in l space.words) (ap (λ (z : Space). z.limits) may.space_is) ∙ ap (tables_in (limits_of b)) (sym words);
-      thread_states = ap (λ z. map thread_state_of (mutators_in z)) held;
+      thread_states = all_shown_told execution.history (mutators_in execution.core.actors) is.told ∙ ap (λ z. map (told_state execution.history) (mutators_in z)) held;
       decrementers = ap (λ z. map decrementing_of (decrementers_in z)) held;
       tracers = ap (λ z. map tracing_of (tracers_in z)) held;
       order = subst AreInOrder held is.order;
       mutators = λ i m there. is.mutators i m (ap (λ z. slice_get (mutators_in z) i) held ∙ there);
+      told = λ i m there. is.told i m (ap (λ z. slice_get (mutators_in z) i) held ∙ there);
       helpers = λ i d there. is.decrementers i d (ap (λ z. slice_get (decrementers_in z) i) held ∙ there);
       are_tracers = λ i d there. is.tracers i d (ap (λ z. slice_get (tracers_in z) i) held ∙ there);
       space_is = may.space_is;
@@ -116,13 +120,13 @@ is_end b execution cleared space actors may is =
     }
 
 -- the thread state of a mutator
-shown_end : (b : Beginning) (s : EpochState) (space : Space) (actors : List AnyActor) (i : ℕ) (m : Mutating) → IsEnd b s space actors → slice_get (mutators_in actors) i ≡ Some m → slice_get s.thread_states i ≡ Some (thread_state_of m)
-shown_end b s space actors i m is there = ap (λ z. slice_get z i) is.thread_states ∙ mapped thread_state_of (mutators_in actors) i m there
+shown_end : (b : Beginning) (s : EpochState) (space : Space) (actors : List AnyActor) (i : ℕ) (m : Mutating) → IsEnd b s space actors → slice_get (mutators_in actors) i ≡ Some m → slice_get s.thread_states i ≡ Some (told_state s.history m)
+shown_end b s space actors i m is there = ap (λ z. slice_get z i) is.thread_states ∙ mapped (told_state s.history) (mutators_in actors) i m there
 
 -- whose thread state it is
 shown_of : (b : Beginning) (s : EpochState) (space : Space) (actors : List AnyActor) (i : ℕ) (v : ThreadState) → IsEnd b s space actors → slice_get s.thread_states i ≡ Some v
-    → (m : Mutating) × (slice_get (mutators_in actors) i ≡ Some m) × (v ≡ thread_state_of m)
-shown_of b s space actors i v is shown = mapped_from thread_state_of (mutators_in actors) i v (sym (ap (λ z. slice_get z i) is.thread_states) ∙ shown)
+    → (m : Mutating) × (slice_get (mutators_in actors) i ≡ Some m) × (v ≡ told_state s.history m)
+shown_of b s space actors i v is shown = mapped_from (told_state s.history) (mutators_in actors) i v (sym (ap (λ z. slice_get z i) is.thread_states) ∙ shown)
 
 -- a mutator rests, and so do a decrementer and a tracer
 mutator_rests : (b : Beginning) (s : EpochState) (space : Space) (actors : List AnyActor) (i : ℕ) (m : Mutating) → IsEnd b s space actors → slice_get (mutators_in actors) i ≡ Some m → rests_in m.phase ≡ true
@@ -170,25 +174,25 @@ all_actors_rest : (b : Beginning) (s : EpochState) (space : Space) (actors : Lis
 all_actors_rest b s space actors is = record { mutators = states_rest b s space actors is; decrementers = all_helpers_rest b s space actors is; tracers = all_tracers_rest b s space actors is }
 
 -- the stage of one that is through
-stage_end : (m : Mutating) → m.phase ≡ phase.Finished → (thread_state_of m).stage ≡ Through (reason_by m.end)
+stage_end : (m : Mutating) → m.phase ≡ phase.Finished → stage_in m m.phase ≡ Through (reason_by m.end)
 stage_end m finished = ap (stage_in m) finished
 
 -- why it is through is so
 reason_so : (b : Beginning) (s : EpochState) (space : Space) (actors : List AnyActor) (i : ℕ) (m : Mutating) → IsEnd b s space actors → slice_get (mutators_in actors) i ≡ Some m → m.phase ≡ phase.Finished
-    → HasReason s (thread_state_of m) (reason_by m.end)
+    → HasReason s (told_state s.history m) (reason_by m.end)
 reason_so b s space actors i m is there finished =
-    (subst (IsWithinTurn s (thread_state_of m)) (stage_end m finished) (is.epoch.called.each i (thread_state_of m) (shown_end b s space actors i m is there)).within_turn).2
+    (subst (IsWithinTurn s (told_state s.history m)) (stage_end m finished) (is.epoch.called.each i (told_state s.history m) (shown_end b s space actors i m is there)).within_turn).2
 
 -- there are as many mutators as threads
 mutator_count : (b : Beginning) (s : EpochState) (space : Space) (actors : List AnyActor) → IsEnd b s space actors → length (mutators_in actors) ≡ (limits_of b).threads
-mutator_count b s space actors is = sym (length-map (mutators_in actors) thread_state_of) ∙ ap length (sym is.thread_states) ∙ is.epoch.called.as_many
+mutator_count b s space actors is = sym (length-map (mutators_in actors) (told_state s.history)) ∙ ap length (sym is.thread_states) ∙ is.epoch.called.as_many
 
 -- ---- collecting
 
 -- its log has the room of all logs
 log_room : (b : Beginning) (s : EpochState) (space : Space) (actors : List AnyActor) (i : ℕ) (m : Mutating) → IsEnd b s space actors → slice_get (mutators_in actors) i ≡ Some m
     → (m.log.room ≡ (limits_of b).log) × (length m.log.items ≤ m.log.room)
-log_room b s space actors i m is there = is.epoch.logged.rooms i (thread_state_of m) (shown_end b s space actors i m is there)
+log_room b s space actors i m is there = is.epoch.logged.rooms i (told_state s.history m) (shown_end b s space actors i m is there)
 
 -- all actors may give up what they have, and the space has room for it
 pub may_all_give : (b : Beginning) (s : EpochState) (space : Space) (actors : List AnyActor) → IsEnd b s space actors → MayAllGive space actors
@@ -220,19 +224,19 @@ may_all_give b s space actors is =
     }
 
 -- what is collected is that of all thread states
-same_registers : (mutators : List Mutating) → all_registers mutators ≡ registers_of (map thread_state_of mutators)
-same_registers mutators = sym (flat_map-map (λ (v : ThreadState). v.registers) thread_state_of mutators)
+same_registers : (h : List Item) (mutators : List Mutating) → all_registers mutators ≡ registers_of (map (told_state h) mutators)
+same_registers h mutators = sym (flat_map-map (λ (v : ThreadState). v.registers) (told_state h) mutators)
 
 -- so it is with entries
-same_entries : (mutators : List Mutating) → all_entries mutators ≡ logs_of (map thread_state_of mutators)
-same_entries mutators = sym (flat_map-map (λ (v : ThreadState). v.log.items) thread_state_of mutators)
+same_entries : (h : List Item) (mutators : List Mutating) → all_entries mutators ≡ logs_of (map (told_state h) mutators)
+same_entries h mutators = sym (flat_map-map (λ (v : ThreadState). v.log.items) (told_state h) mutators)
 
 -- a space that has what the actors had has collected it
 pub is_collected : (b : Beginning) (s : EpochState) (space now : Space) (actors : List AnyActor) → IsEnd b s space actors → now ≡ holding space (mutators_in actors) → HasCollected b s now
 is_collected b s space now actors is has = record {
   tables = ap tables_of has ∙ is.tables;
-  registers = ap (λ (z : Space). z.registers) has ∙ ap (λ (z : Space). places_in z (all_registers (mutators_in actors))) is.space_is ∙ ap (places_in b.space) (same_registers (mutators_in actors) ∙ ap registers_of (sym is.thread_states));
-  logged = ap (λ (z : Space). z.logged) has ∙ ap (λ (z : Space). entries_in z (all_entries (mutators_in actors))) is.space_is ∙ ap (entries_in b.space) (same_entries (mutators_in actors) ∙ ap logs_of (sym is.thread_states));
+  registers = ap (λ (z : Space). z.registers) has ∙ ap (λ (z : Space). places_in z (all_registers (mutators_in actors))) is.space_is ∙ ap (places_in b.space) (same_registers s.history (mutators_in actors) ∙ ap registers_of (sym is.thread_states));
+  logged = ap (λ (z : Space). z.logged) has ∙ ap (λ (z : Space). entries_in z (all_entries (mutators_in actors))) is.space_is ∙ ap (entries_in b.space) (same_entries s.history (mutators_in actors) ∙ ap logs_of (sym is.thread_states));
   rest = has ∙ subst (λ z. holding z (mutators_in actors) ≡ refitted (holding z (mutators_in actors))) (sym is.space_is) refl ∙ ap refitted (sym has);
 }
   where
@@ -293,9 +297,9 @@ same_orders : (ms : List Mutating) → orders_of (map given_up ms) ≡ orders_of
 same_orders [] = refl
 same_orders (m ∷ ms) = ap (λ z. ordered_in m ∷ z) (same_orders ms)
 
-shown_script : (ms : List Mutating) → script_of ms ≡ script_in (map thread_state_of ms)
-shown_script [] = refl
-shown_script (m ∷ ms) = ap (λ z. m.operations ∷ z) (shown_script ms)
+shown_script : (h : List Item) (ms : List Mutating) → script_of ms ≡ script_in (map (told_state h) ms)
+shown_script h [] = refl
+shown_script h (m ∷ ms) = ap (λ z. m.operations ∷ z) (shown_script h ms)
 
 -- so they made as many objects
 same_news : (ms : List Mutating) → news_of (map given_up ms) ≡ news_of ms
@@ -358,7 +362,8 @@ mutator_still l m is rests =
 ended_all : (b : Beginning) (s : EpochState) (space : Space) (actors : List AnyActor) (i : ℕ) (m : Mutating) (p : MutatorPhase) → IsEnd b s space actors → slice_get (mutators_in actors) i ≡ Some m
     → m.phase ≡ p → rests_in p ≡ true → IsSteadyIn m p → m.end ≡ Some ends.Ended → length m.replies.items ≡ length m.operations + 1
 ended_all b s space actors i m phase.Ready is there at rests steady ended = absurd (steady.0 ended)
-ended_all b s space actors i m phase.Finished is there at rests steady ended = subst (λ (z : Reason). HasReason s (thread_state_of m) z) (ap reason_by ended) (reason_so b s space actors i m is there at)
+ended_all b s space actors i m phase.Finished is there at rests steady ended =
+    sym (told_length s.history m (is.told i m there)) ∙ subst (λ (z : Reason). HasReason s (told_state s.history m) z) (ap reason_by ended) (reason_so b s space actors i m is there at)
 ended_all b s space actors i m p is there at rests steady ended = absurd (cc)
 
 -- it rests for the history
@@ -366,11 +371,12 @@ rests_after : (b : Beginning) (s : EpochState) (space : Space) (actors : List An
     → RestsAfter (limits_of b) b.every s.history (i + 1) (given_up m)
 rests_after b s space actors i m is there =
     let shown = shown_end b s space actors i m is there in
-    let has = is.epoch.called.each i (thread_state_of m) shown in
-    let thread : m.thread ≡ i + 1 = is.epoch.called.threads i (thread_state_of m) shown in
-    let done : IsAsHistory s (thread_state_of m) = rest_is_history b s i (thread_state_of m) is.epoch (states_rest b s space actors is) shown in
+    let has = is.epoch.called.each i (told_state s.history m) shown in
+    let thread : m.thread ≡ i + 1 = is.epoch.called.threads i (told_state s.history m) shown in
+    let done : IsAsHistory s (told_state s.history m) = rest_is_history b s i (told_state s.history m) is.epoch (states_rest b s space actors is) shown in
     let room = (log_room b s space actors i m is there).0 in
     let rests = mutator_rests b s space actors i m is there in
+    let told = is.told i m there in
     record {
       mutator = mutator_still (limits_of b) m (is.mutators i m there) rests;
       thread = thread;
@@ -378,8 +384,9 @@ rests_after b s space actors i m is there =
       log = ap empty room;
       spans = refl;
       rests = rests;
-      calls = subst (λ t. calls_of t s.history ≡ take (length m.replies.items) (all_of m.operations)) thread done.calls;
-      replies = subst (λ t. replies_of t s.history ≡ m.replies.items) thread done.replies;
+      calls = subst (λ t. calls_of t s.history ≡ take (length m.replies.items) (all_of m.operations)) thread (done.calls ∙ ap (λ n. take n (all_of m.operations)) (told_length s.history m told));
+      replies = subst (λ t. all_told_as m.names (replies_of t s.history) ≡ m.replies.items) thread (told_as_kept s.history m told done.replies);
+      unnamed = told_end s.history m told;
       began = subst (λ t. m.before ≡ objects_before t s.history) thread (has.began ∙ sym (extends_before (limits_of b).threads b.every b.history s.history m.thread is.epoch.extends));
       ended = ended_all b s space actors i m m.phase is there refl rests (is.mutators i m there).steady;
     }
@@ -448,7 +455,7 @@ some_turns b s space actors is =
     let some = is.epoch.begins.between.safepoint.holds.space.limits.threads.0 in
     let (m, there) = first_item (mutators_in actors) (omega (arith, many, some)) in
     let turns = (is.mutators 0 m there).sound.setup.every.0 in
-    let same = (is.epoch.called.each 0 (thread_state_of m) (shown_end b s space actors 0 m is there)).every in
+    let same = (is.epoch.called.each 0 (told_state s.history m) (shown_end b s space actors 0 m is there)).every in
     omega (arith, turns, same)
 
 -- one thing holds, or each item has another
@@ -483,7 +490,7 @@ finished_want space mutators finished = inr (all_or_one _ IsThrough mutators (λ
 -- what is wanted of the space and the mutators is wanted of the epoch state
 state_wants : (b : Beginning) (s : EpochState) (space : Space) (actors : List AnyActor) → IsEnd b s space actors → IsPauseWanted space (mutators_in actors) → StateWantsPause s
 state_wants b s space actors is (inl set) = inl (ap (λ (t : Tables). t.cursors PAUSE_WORD) (sym is.tables) ∙ set)
-state_wants b s space actors is (inr (inl (i, m, there, short))) = inr (inl (i, thread_state_of m, shown_end b s space actors i m is there, (reason_by m.end, stage_end m short.0, λ e. short.1 (has_ended m.end e))))
+state_wants b s space actors is (inr (inl (i, m, there, short))) = inr (inl (i, told_state s.history m, shown_end b s space actors i m is there, (reason_by m.end, stage_end m short.0, λ e. short.1 (has_ended m.end e))))
 state_wants b s space actors is (inr (inr through)) = inr (inr (λ i v shown.
     let (m, there, same) = shown_of b s space actors i v is shown in
     let (finished, ended) = through i m there in
@@ -509,7 +516,7 @@ has_progress b execution cleared space actors is wanted unasked =
           inr (inl (lacks.number, given_up m, mapped given_up (mutators_in actors) lacks.number m there, (no_run m.end told.1, rests)))
       | inr (inr ended) ↦ inr (inr (λ i x e.
           let (m, there, same) = mapped_from given_up (mutators_in actors) i x e in
-          let stage = ended i (thread_state_of m) (shown_end b s space actors i m is there) in
+          let stage = ended i (told_state s.history m) (shown_end b s space actors i m is there) in
           let told = through_told m m.phase why.Ended (mutator_rests b s space actors i m is there) stage in
           subst IsThrough (sym same) (told.0, has_ended m.end told.1)))
     ]
@@ -521,7 +528,7 @@ pause_due b execution cleared space actors is wanted =
     let s : EpochState = epoch_state_of b execution cleared in
     let rest = states_rest b s space actors is in
     record {
-      cause = λ listed terms are legal. subst (λ z. HasCause terms z s.history) (ap script_in is.thread_states ∙ sym (given_script actors ∙ shown_script (mutators_in actors)))
+      cause = λ listed terms are legal. subst (λ z. HasCause terms z s.history) (ap script_in is.thread_states ∙ sym (given_script actors ∙ shown_script s.history (mutators_in actors)))
           (cause_follows wanted_has_cause ends_are_counted all_blocks_are_taken b s terms is.epoch listed rest (state_wants b s space actors is wanted) (closing_logs b s is.epoch rest) are legal);
       progress = λ unasked. subst (HasProgress b execution) (sym (given_mutators actors)) (has_progress b execution cleared space actors is wanted unasked);
     }
@@ -539,15 +546,24 @@ given_collected : (ms : List Mutating) → list_any has_collected (map given_up 
 given_collected [] = refl
 given_collected (m ∷ ms) = ap (λ c. has_collected m || c) (given_collected ms)
 
+-- as if they told names they show what they show
+shown_each : (h : List Item) (ms : List Mutating) → map thread_state_of (map (told_in h) ms) ≡ map (shown_in h) ms
+shown_each h [] = refl
+shown_each h (m ∷ ms) = ap (λ vs. shown_in h m ∷ vs) (shown_each h ms)
+
 -- they tell whether it was called
 collects : (b : Beginning) (s : EpochState) (space : Space) (actors : List AnyActor) → IsEnd b s space actors → collect_called b.history ≡ false → collect_called s.history ≡ list_any has_collected (map given_up (mutators_in actors))
 collects b s space actors is none =
-    collected_is_told b s (mutators_in actors) is.epoch is.thread_states
-    (λ i m there.
-    let shown = shown_end b s space actors i m is there in
-    (shown, states_rest b s space actors is i (thread_state_of m) shown, rest_is_history b s i (thread_state_of m) is.epoch (states_rest b s space actors is) shown))
-    (mutator_count b s space actors is) none
-    ∙ sym (given_collected (mutators_in actors))
+    let ms : List Mutating = mutators_in actors in
+    let named : List Mutating = map (told_in s.history) ms in
+    collected_is_told b s named is.epoch (is.thread_states ∙ sym (all_shown_told s.history ms is.told) ∙ sym (shown_each s.history ms))
+    (λ i x there.
+    let (m, at, same) = mapped_from (told_in s.history) ms i x there in
+    let shown = shown_end b s space actors i m is at ∙ ap Some (sym (shown_told s.history m (is.told i m at)) ∙ ap thread_state_of (sym same)) in
+    (shown, states_rest b s space actors is i (thread_state_of x) shown, rest_is_history b s i (thread_state_of x) is.epoch (states_rest b s space actors is) shown))
+    (length-map ms (told_in s.history) ∙ mutator_count b s space actors is) none
+    ∙ all_told_collect s.history ms is.told
+    ∙ sym (given_collected ms)
 
 -- no number of the remembered set is drawn where no block is Chosen
 none_remembered : (b : Beginning) (s : EpochState) (now after : Space) → IsEpoch b s → tables_of now ≡ s.tables → DrawnIsOut b.space now after → NoneChosen (tables_of b.space) b.space.limits.blocks → (tables_of after).cursors REMEMBERED_CURSOR ≡ (tables_of b.space).cursors REMEMBERED_CURSOR

@@ -1,12 +1,14 @@
 -- The invariant of an epoch holds after each event of a schedule, and each next step fits: the step of a mutator is an event of the
 -- epoch, and that of a helper a step that keeps it.
-use Rattle.std.proofs.Common.{◌≡◌, ℕ, ◌≤◌, refl, sym, ap, subst, ◌∙◌, arith, List, [], ◌∷◌}
-use Rattle.std.specs.Prelude.{Option, Some, None, IsSome, map, slice_get, slice_set}
+use Rattle.std.proofs.Common.{◌≡◌, ◌≢◌, ℕ, ◌+◌, ◌≤◌, Bool, true, false, refl, sym, ap, subst, ◌∙◌, arith, List, [], ◌∷◌}
+use Rattle.std.specs.Prelude.{Option, Some, None, IsSome, if◌then◌else◌, map, slice_get, slice_set}
 use Rattle.std.proofs.lemmas.List.{map-set}
 use Rattle.lxr_layout.specs.declared.Name.{Name}
 use Rattle.lxr_layout.specs.declared.Place.{Place}
 use Rattle.lxr_graph.specs.declared.Op.{Op}
-use Rattle.lxr_graph.specs.History.{Item}
+use Rattle.lxr_graph.specs.declared.Reply.{Reply}
+use Rattle.lxr_graph.specs.History.{Call, Item, replies_of}
+use Rattle.lxr_graph.specs.Step.{step}
 use Rattle.lxr_image.specs.Tables.{Tables, tables_in}
 use Rattle.lxr_model.specs.Moments.{Field}
 use Rattle.lxr_actor.specs.declared.Action.{Action}
@@ -17,7 +19,7 @@ use Rattle.lxr_actor.specs.Machine.{Fits}
 use Rattle.lxr_actor.specs.Run.{AlwaysFits, FitsAt, core_of, happened, run, stepped}
 use Rattle.lxr_mutator.specs.declared.phases.MutatorPhase.{MutatorPhase}
 use Rattle.lxr_mutator.specs.declared.phases.MutatorPhase.TheVariants as phase
-use Rattle.lxr_mutator.specs.Mutating.{Mutating}
+use Rattle.lxr_mutator.specs.Mutating.{Mutating, op_now}
 use Rattle.lxr_mutator.specs.Steps.{action, mutator_machine}
 use Rattle.lxr_decrement.specs.Decrementing.{DecrementerState}
 use Rattle.lxr_decrement.specs.Steps.{decrementer_machine}
@@ -26,16 +28,14 @@ use Rattle.lxr_trace.specs.Steps.{tracer_machine}
 use Rattle.lxr_core_access.specs.Decrementers.{Decrementing}
 use Rattle.lxr_core_access.specs.Tracers.{Tracing}
 use Rattle.lxr_core_invariant.specs.ThreadStates.{ThreadState}
-use Rattle.lxr_core_invariant.specs.EpochStates.{Beginning, EpochState, limits_of}
-use Rattle.lxr_core_invariant.specs.Events as event
+use Rattle.lxr_core_invariant.specs.EpochStates.{Beginning, EpochState, limits_of, moment_of}
 use Rattle.lxr_core_invariant.specs.Decremented.{decremented, traced}
-use Rattle.lxr_core_invariant.specs.Happening.{happen}
 use Rattle.lxr_core_invariant.specs.Epoch.{IsEpoch}
 use Rattle.lxr_core_invariant.specs.Laws.{HaveNotFallen}
+use Rattle.lxr_core_inv_history.proofs.CallLemmas.{other_call}
 use Rattle.lxr_core_inv_memory.proofs.RaisingLemmas.{cursors_dont_fall}
-use Rattle.lxr_core_sim_mutator.specs.Showing.{IsMutatorOf, thread_state_of}
-use Rattle.lxr_core_sim_mutator.specs.Stepping.{ShowsAs, history_after, places_after, places_in}
-use Rattle.lxr_core_sim_mutator.proofs.StepLemmas.{each_step}
+use Rattle.lxr_core_sim_mutator.specs.Showing.{HasTold, IsMutatorOf, thread_state_of}
+use Rattle.lxr_core_sim_mutator.specs.Stepping.{history_after, places_in, stands_in}
 use Rattle.lxr_core_sim_helpers.specs.DecrementerShowing.{IsDecrementerOf, decrementing_of}
 use Rattle.lxr_core_sim_helpers.specs.DecrementerStepping.{ShowsDecrementer}
 use Rattle.lxr_core_sim_helpers.proofs.DecrementerHintLemmas.{hints_stay}
@@ -49,8 +49,10 @@ use Rattle.lxr_core.specs.declared.actors.AnyActor.TheVariants as any
 use Rattle.lxr_core.specs.Actors.{any_machine, decrementers_in, mutators_in, tracers_in}
 use Rattle.lxr_core.specs.Executions.{HoldsExecution, IsExecution, EpochInvariantHolds, Execution, epoch_state_of, tell, tell_all}
 use Rattle.lxr_core.proofs.OrderedLemmas.{OrdersStep, order_step}
-use Rattle.lxr_core.proofs.KeptLemmas.{decrementers_keep_epoch, epoch_is_kept, tracers_keep_epoch}
-use Rattle.lxr_core.proofs.MappedLemmas.{each_set, mapped, set_itself}
+use Rattle.lxr_core.proofs.KeptLemmas.{decrementers_keep_epoch, tracers_keep_epoch}
+use Rattle.lxr_core.proofs.MappedLemmas.{each_put, each_set, mapped, set_alike, set_itself}
+use Rattle.lxr_core.proofs.NamelessLemmas.{Shows, any_step}
+use Rattle.lxr_core.proofs.ToldLemmas.{shown_in, told_same, told_still, told_thread}
 use Rattle.lxr_core.proofs.OrderLemmas.{IsHelperAt, IsTracerAt, helper_at, helpers_beside, helpers_stay, mutator_at, mutators_before, mutators_put, mutators_stay, put_order, tracer_at, tracers_beside, tracers_stay, two_helpers, two_mutators, two_tracers}
 use Rattle.lxr_core.proofs.TurnLemmas.{at_rest, helper_at_rest, helper_moved, moved, tell_helper, tell_step, tell_tracer, told_with, tracer_at_rest, tracer_moved}
 
@@ -70,46 +72,6 @@ epoch_state_same s t thread_states ds ts h at tables shown decrementers tracers 
     ∙ (ap (λ z. epoch_state_by t thread_states ds z s.history s.at s.cleared) tracers
     ∙ (ap (λ z. epoch_state_by t thread_states ds ts z s.at s.cleared) history ∙ ap (λ z. epoch_state_by t thread_states ds ts h z s.cleared) places))))
 
--- what helpers are about to do stays at events of mutators
-record HelpersStay (s after : EpochState) : Type 0 where
-  decrementers : after.decrementers ≡ s.decrementers
-  tracers : after.tracers ≡ s.tracers
-
-helpers_show : (b : Beginning) (s : EpochState) (i : ℕ) (v : ThreadState) (e : event.Event) → HelpersStay s (happen b s i v e)
-helpers_show b s i v event.Stays = record { decrementers = refl; tracers = refl }
-helpers_show b s i v event.Obeys = record { decrementers = refl; tracers = refl }
-helpers_show b s i v event.Begins = record { decrementers = refl; tracers = refl }
-helpers_show b s i v event.BeginsBlock = record { decrementers = refl; tracers = refl }
-helpers_show b s i v (event.Bumps from shape) = record { decrementers = refl; tracers = refl }
-helpers_show b s i v (event.DoesAtOnce o r registers) = record { decrementers = refl; tracers = refl }
-helpers_show b s i v (event.FindsReference place index) = record { decrementers = refl; tracers = refl }
-helpers_show b s i v (event.FindsValue place refs index) = record { decrementers = refl; tracers = refl }
-helpers_show b s i v (event.FindsNone o) = record { decrementers = refl; tracers = refl }
-helpers_show b s i v (event.LoadsReference o dest place index) = record { decrementers = refl; tracers = refl }
-helpers_show b s i v (event.TellsName o n) = record { decrementers = refl; tracers = refl }
-helpers_show b s i v (event.GetsValue o place refs index) = record { decrementers = refl; tracers = refl }
-helpers_show b s i v (event.PutsValue o place refs index value) = record { decrementers = refl; tracers = refl }
-helpers_show b s i v (event.AddsValue o place refs index value) = record { decrementers = refl; tracers = refl }
-helpers_show b s i v (event.SeesClear place index) = record { decrementers = refl; tracers = refl }
-helpers_show b s i v (event.SeesFull place index) = record { decrementers = refl; tracers = refl }
-helpers_show b s i v (event.LoadsOld place index) = record { decrementers = refl; tracers = refl }
-helpers_show b s i v (event.ClearsFirst e n) = record { decrementers = refl; tracers = refl }
-helpers_show b s i v (event.ClearsLate e) = record { decrementers = refl; tracers = refl }
-helpers_show b s i v (event.StoresReference o place index value) = record { decrementers = refl; tracers = refl }
-helpers_show b s i v (event.SwapsReference o dest place index value) = record { decrementers = refl; tracers = refl }
-helpers_show b s i v event.DrawsRun = record { decrementers = refl; tracers = refl }
-helpers_show b s i v event.MissesRun = record { decrementers = refl; tracers = refl }
-helpers_show b s i v (event.SeesRun number) = record { decrementers = refl; tracers = refl }
-helpers_show b s i v (event.TakesRun r shape) = record { decrementers = refl; tracers = refl }
-helpers_show b s i v event.DrawsBlock = record { decrementers = refl; tracers = refl }
-helpers_show b s i v event.MissesBlock = record { decrementers = refl; tracers = refl }
-helpers_show b s i v (event.SeesBlock number) = record { decrementers = refl; tracers = refl }
-helpers_show b s i v (event.TakesBlock block shape) = record { decrementers = refl; tracers = refl }
-helpers_show b s i v (event.Wipes place shape wiped) = record { decrementers = refl; tracers = refl }
-helpers_show b s i v (event.MakesObject o dest place shape) = record { decrementers = refl; tracers = refl }
-helpers_show b s i v (event.Asks o r) = record { decrementers = refl; tracers = refl }
-helpers_show b s i v (event.Leaves why) = record { decrementers = refl; tracers = refl }
-
 -- which references' bits were cleared says nothing of places
 places_uncleared : (b : Beginning) (execution : Execution) (cleared : List Field) (m : Mutating) (p : MutatorPhase) → places_in p b (epoch_state_of b execution cleared) m ≡ places_in p b (epoch_state_of b execution []) m
 places_uncleared b execution cleared m (phase.Heading place) = refl
@@ -119,15 +81,16 @@ places_uncleared b execution cleared m p = refl
 
 -- the mutator of a number in an epoch state
 shows_as : (b : Beginning) (execution : Execution) (cleared : List Field) (n : ℕ) (m : Mutating) → IsExecution b execution cleared → slice_get execution.core.actors n ≡ Some (any.Mutator m)
-    → ShowsAs b (epoch_state_of b execution cleared) execution.core.words n m
+    → Shows b (epoch_state_of b execution cleared) execution.core.words n m
 shows_as b execution cleared n m is there =
     let stands = mutator_at execution.core.actors n m is.order there in
     record {
       epoch = is.epoch;
       size = is.size;
       tables = refl;
-      thread_state = mapped thread_state_of (mutators_in execution.core.actors) n m stands;
+      thread_state = mapped (shown_in execution.history) (mutators_in execution.core.actors) n m stands;
       mutator = is.mutators n m stands;
+      told = is.told n m stands;
     }
 
 -- and the helper of a number among helpers
@@ -181,11 +144,12 @@ hint_kept b execution n d e (cleared, is) there of same =
     let state : EpochState = epoch_state_of b execution cleared in (
       cleared,
       record {
-        epoch = subst (IsEpoch b) (epoch_state_same state state.tables (map thread_state_of (mutators_in (slice_set actors n (any.Decrementer e)))) (map decrementing_of (decrementers_in (slice_set actors n (any.Decrementer e))))
-            (map tracing_of (tracers_in (slice_set actors n (any.Decrementer e)))) state.history state.at refl (ap (map thread_state_of) (sym mutators_same)) (sym shown) (ap (map tracing_of) (sym tracers_same)) refl refl) is.epoch;
+        epoch = subst (IsEpoch b) (epoch_state_same state state.tables (map (shown_in execution.history) (mutators_in (slice_set actors n (any.Decrementer e)))) (map decrementing_of (decrementers_in (slice_set actors n (any.Decrementer e))))
+            (map tracing_of (tracers_in (slice_set actors n (any.Decrementer e)))) state.history state.at refl (ap (map (shown_in execution.history)) (sym mutators_same)) (sym shown) (ap (map tracing_of) (sym tracers_same)) refl refl) is.epoch;
         size = is.size;
         order = put_order actors n (any.Decrementer d) (any.Decrementer e) there (two_helpers d e) is.order;
         mutators = subst (λ ms. (i : ℕ) (m : Mutating) → slice_get ms i ≡ Some m → IsMutatorOf (limits_of b) m) (sym mutators_same) is.mutators;
+        told = subst (λ ms. (i : ℕ) (m : Mutating) → slice_get ms i ≡ Some m → HasTold execution.history m) (sym mutators_same) is.told;
         decrementers = subst (λ ds. (i : ℕ) (x : DecrementerState) → slice_get ds i ≡ Some x → IsDecrementerOf (limits_of b) x) (sym (at.put e))
             (each_set (IsDecrementerOf (limits_of b)) (decrementers_in actors) at.number e of is.decrementers);
         tracers = subst (λ ts. (i : ℕ) (x : TracerState) → slice_get ts i ≡ Some x → IsTracerOf (limits_of b) x) (sym tracers_same) is.tracers;
@@ -212,16 +176,41 @@ tracer_hint_kept b execution n d e (cleared, is) there of same =
     let state : EpochState = epoch_state_of b execution cleared in (
       cleared,
       record {
-        epoch = subst (IsEpoch b) (epoch_state_same state state.tables (map thread_state_of (mutators_in (slice_set actors n (any.Tracer e)))) (map decrementing_of (decrementers_in (slice_set actors n (any.Tracer e))))
-            (map tracing_of (tracers_in (slice_set actors n (any.Tracer e)))) state.history state.at refl (ap (map thread_state_of) (sym mutators_same)) (ap (map decrementing_of) (sym helpers_same)) (sym shown) refl refl) is.epoch;
+        epoch = subst (IsEpoch b) (epoch_state_same state state.tables (map (shown_in execution.history) (mutators_in (slice_set actors n (any.Tracer e)))) (map decrementing_of (decrementers_in (slice_set actors n (any.Tracer e))))
+            (map tracing_of (tracers_in (slice_set actors n (any.Tracer e)))) state.history state.at refl (ap (map (shown_in execution.history)) (sym mutators_same)) (ap (map decrementing_of) (sym helpers_same)) (sym shown) refl refl) is.epoch;
         size = is.size;
         order = put_order actors n (any.Tracer d) (any.Tracer e) there (two_tracers d e) is.order;
         mutators = subst (λ ms. (i : ℕ) (m : Mutating) → slice_get ms i ≡ Some m → IsMutatorOf (limits_of b) m) (sym mutators_same) is.mutators;
+        told = subst (λ ms. (i : ℕ) (m : Mutating) → slice_get ms i ≡ Some m → HasTold execution.history m) (sym mutators_same) is.told;
         decrementers = subst (λ ds. (i : ℕ) (x : DecrementerState) → slice_get ds i ≡ Some x → IsDecrementerOf (limits_of b) x) (sym helpers_same) is.decrementers;
         tracers = subst (λ ts. (i : ℕ) (x : TracerState) → slice_get ts i ≡ Some x → IsTracerOf (limits_of b) x) (sym (at.put e))
             (each_set (IsTracerOf (limits_of b)) (tracers_in actors) at.number e of is.tracers);
       },
     )
+
+-- ---- calls of other threads
+
+-- a step of a mutator leaves what the history has of others, whose threads have other numbers
+module _ (b : Beginning) (execution : Execution) (cleared : List Field) (n : ℕ) (m to : Mutating) (h : List Item) (is : IsExecution b execution cleared) (here : slice_get (mutators_in execution.core.actors) n ≡ Some m)
+    (history : h ≡ history_after b (epoch_state_of b execution cleared) m to) where
+  thread_number : (k : ℕ) (y : Mutating) → slice_get (mutators_in execution.core.actors) k ≡ Some y → y.thread ≡ k + 1
+  thread_number k y there =
+      sym (told_thread execution.history y)
+      ∙ is.epoch.called.threads k (shown_in execution.history y) (mapped (shown_in execution.history) (mutators_in execution.core.actors) k y there)
+
+  -- the reply of its call
+  abbrev replied : Reply
+  replied = (step (moment_of b (epoch_state_of b execution cleared)).state m.thread (op_now m)).1
+
+  others_replied : (i : ℕ) (x : Mutating) → i ≢ n → slice_get (mutators_in execution.core.actors) i ≡ Some x → replies_of x.thread h ≡ replies_of x.thread execution.history
+  others_replied i x other at =
+      let own = thread_number n m here in
+      let its = thread_number i x at in
+      ap (replies_of x.thread) history ∙ by_standing (stands_in m.phase m to) (λ e. other (let k : i ≡ n = omega (arith, own, its, e) in k))
+    where
+      by_standing : (c : Bool) → x.thread ≢ m.thread → replies_of x.thread (if c then Call m.thread (op_now m) replied ∷ execution.history else execution.history) ≡ replies_of x.thread execution.history
+      by_standing true differ = (other_call x.thread m.thread (op_now m) replied execution.history differ).replies
+      by_standing false differ = refl
 
 -- ---- schedules
 
@@ -243,35 +232,37 @@ module _ (b : Beginning) where
   step_kept : (execution : Execution) (cleared : List Field) (n : ℕ) (m : Mutating) → IsExecution b execution cleared → slice_get execution.core.actors n ≡ Some (any.Mutator m) → IsSome (action m)
       → HoldsRisen b execution (moved b execution n m)
   step_kept execution cleared n m is there some =
-      let s : EpochState = epoch_state_of b execution cleared in
       let actors : List AnyActor = execution.core.actors in
-      let shows = shows_as b execution cleared n m is there in
-      let by = each_step b s execution.core.words n m shows some in
-      let after : EpochState = happen b s n (thread_state_of m) by.event in
-      let epoch : IsEpoch b after = epoch_is_kept b s n (thread_state_of m) by.event is.epoch shows.thread_state by.may in
+      let ms : List Mutating = mutators_in actors in
+      let step = any_step b (epoch_state_of b execution cleared) execution.core.words n m (shows_as b execution cleared n m is there) some in
+      let by = step.leads in
       let m' : Mutating = (stepped mutator_machine execution.core.words m).1 in
+      let after : List AnyActor = slice_set actors n (any.Mutator m') in
       let put = mutators_put actors n m m' is.order there in
       let stay = helpers_stay actors n m m' there in
       let beside = tracers_stay actors n m m' there in
-      let show = helpers_show b s n (thread_state_of m) by.event in
-      let thread_states = by.thread_states ∙ (sym (map-set thread_state_of (mutators_in actors) n m') ∙ ap (map thread_state_of) (sym put)) in
-      let decrementers = show.decrementers ∙ ap (map decrementing_of) (sym stay) in
-      let tracers = show.tracers ∙ ap (map tracing_of) (sym beside) in
-      let same = epoch_state_same after (tables_in (limits_of b) (stepped mutator_machine execution.core.words m).0) (map thread_state_of (mutators_in (slice_set actors n (any.Mutator m'))))
-      (map decrementing_of (decrementers_in (slice_set actors n (any.Mutator m')))) (map tracing_of (tracers_in (slice_set actors n (any.Mutator m'))))
-      (history_after b s m m') (places_after b (epoch_state_of b execution []) m) by.tables thread_states decrementers tracers by.history (by.places ∙ places_uncleared b execution cleared m m.phase) in (
+      let others : (i : ℕ) (x : Mutating) → i ≢ n → slice_get ms i ≡ Some x → replies_of x.thread by.reached.history ≡ replies_of x.thread execution.history = λ i x other at. others_replied b execution cleared n m m' by.reached.history is (mutator_at actors n m is.order there) by.history i x other at in
+      let thread_states = by.thread_states
+      ∙ set_alike (shown_in execution.history) (shown_in by.reached.history) ms n (shown_in by.reached.history m') (λ i x other at. ap thread_state_of (sym (told_same x.names execution.history by.reached.history x (others i x other at))))
+      ∙ (sym (map-set (shown_in by.reached.history) ms n m') ∙ ap (map (shown_in by.reached.history)) (sym put)) ∙ ap (λ h. map (shown_in h) (mutators_in after)) by.history in
+      let same = epoch_state_same by.reached (tables_in (limits_of b) (stepped mutator_machine execution.core.words m).0) (map (shown_in (moved b execution n m).history) (mutators_in after))
+      (map decrementing_of (decrementers_in after)) (map tracing_of (tracers_in after)) (moved b execution n m).history (moved b execution n m).at by.tables thread_states
+      (by.decrementers ∙ ap (map decrementing_of) (sym stay)) (by.tracers ∙ ap (map tracing_of) (sym beside)) by.history (by.places ∙ places_uncleared b execution cleared m m.phase) in (
         (
-          after.cleared,
+          by.reached.cleared,
           record {
-            epoch = subst (IsEpoch b) same epoch;
+            epoch = subst (IsEpoch b) same by.epoch;
             size = by.size ∙ is.size;
             order = put_order actors n (any.Mutator m) (any.Mutator m') there (two_mutators m m') is.order;
-            mutators = subst (λ ms. (i : ℕ) (x : Mutating) → slice_get ms i ≡ Some x → IsMutatorOf (limits_of b) x) (sym put) (each_set (IsMutatorOf (limits_of b)) (mutators_in actors) n m' by.mutator is.mutators);
+            mutators = subst (λ xs. (i : ℕ) (x : Mutating) → slice_get xs i ≡ Some x → IsMutatorOf (limits_of b) x) (sym put) (each_set (IsMutatorOf (limits_of b)) ms n m' by.mutator is.mutators);
+            told = subst (λ h. (i : ℕ) (x : Mutating) → slice_get (mutators_in after) i ≡ Some x → HasTold h x) by.history
+                (subst (λ xs. (i : ℕ) (x : Mutating) → slice_get xs i ≡ Some x → HasTold by.reached.history x) (sym put)
+                (each_put (HasTold by.reached.history) ms n m' step.told (λ i x other at. told_still execution.history by.reached.history x (others i x other at) (is.told i x at))));
             decrementers = subst (λ ds. (i : ℕ) (x : DecrementerState) → slice_get ds i ≡ Some x → IsDecrementerOf (limits_of b) x) (sym stay) is.decrementers;
             tracers = subst (λ ts. (i : ℕ) (x : TracerState) → slice_get ts i ≡ Some x → IsTracerOf (limits_of b) x) (sym beside) is.tracers;
           },
         ),
-        λ c. subst (λ (t : Tables). s.tables.cursors c ≤ t.cursors c) by.tables (cursors_dont_fall.mutators b s n (thread_state_of m) by.event is.epoch by.may c),
+        λ c. subst (λ (t : Tables). (tables_in (limits_of b) execution.core.words).cursors c ≤ t.cursors c) by.tables (by.risen c),
       )
 
   -- so does a step of a decrementer
@@ -288,9 +279,9 @@ module _ (b : Beginning) where
       let stay = mutators_stay actors n d d' there in
       let beside = tracers_beside actors n d d' there in
       let decrementers = sym (map-set decrementing_of (decrementers_in actors) at.number d') ∙ ap (map decrementing_of) (sym (at.put d')) in
-      let same = epoch_state_same after (tables_in (limits_of b) (stepped decrementer_machine execution.core.words d).0) (map thread_state_of (mutators_in (slice_set actors n (any.Decrementer d'))))
+      let same = epoch_state_same after (tables_in (limits_of b) (stepped decrementer_machine execution.core.words d).0) (map (shown_in execution.history) (mutators_in (slice_set actors n (any.Decrementer d'))))
       (map decrementing_of (decrementers_in (slice_set actors n (any.Decrementer d')))) (map tracing_of (tracers_in (slice_set actors n (any.Decrementer d')))) execution.history execution.at by.tables
-      (ap (map thread_state_of) (sym stay)) decrementers (ap (map tracing_of) (sym beside)) refl refl in (
+      (ap (map (shown_in execution.history)) (sym stay)) decrementers (ap (map tracing_of) (sym beside)) refl refl in (
         (
           cleared,
           record {
@@ -298,6 +289,7 @@ module _ (b : Beginning) where
             size = by.size ∙ is.size;
             order = put_order actors n (any.Decrementer d) (any.Decrementer d') there (two_helpers d d') is.order;
             mutators = subst (λ ms. (i : ℕ) (m : Mutating) → slice_get ms i ≡ Some m → IsMutatorOf (limits_of b) m) (sym stay) is.mutators;
+            told = subst (λ ms. (i : ℕ) (m : Mutating) → slice_get ms i ≡ Some m → HasTold execution.history m) (sym stay) is.told;
             decrementers = subst (λ ds. (i : ℕ) (x : DecrementerState) → slice_get ds i ≡ Some x → IsDecrementerOf (limits_of b) x) (sym (at.put d'))
                 (each_set (IsDecrementerOf (limits_of b)) (decrementers_in actors) at.number d' by.helper is.decrementers);
             tracers = subst (λ ts. (i : ℕ) (x : TracerState) → slice_get ts i ≡ Some x → IsTracerOf (limits_of b) x) (sym beside) is.tracers;
@@ -320,9 +312,9 @@ module _ (b : Beginning) where
       let stay = mutators_before actors n d d' there in
       let beside = helpers_beside actors n d d' there in
       let tracers = sym (map-set tracing_of (tracers_in actors) at.number d') ∙ ap (map tracing_of) (sym (at.put d')) in
-      let same = epoch_state_same after (tables_in (limits_of b) (stepped tracer_machine execution.core.words d).0) (map thread_state_of (mutators_in (slice_set actors n (any.Tracer d'))))
+      let same = epoch_state_same after (tables_in (limits_of b) (stepped tracer_machine execution.core.words d).0) (map (shown_in execution.history) (mutators_in (slice_set actors n (any.Tracer d'))))
       (map decrementing_of (decrementers_in (slice_set actors n (any.Tracer d')))) (map tracing_of (tracers_in (slice_set actors n (any.Tracer d')))) execution.history execution.at by.tables
-      (ap (map thread_state_of) (sym stay)) (ap (map decrementing_of) (sym beside)) tracers refl refl in (
+      (ap (map (shown_in execution.history)) (sym stay)) (ap (map decrementing_of) (sym beside)) tracers refl refl in (
         (
           cleared,
           record {
@@ -330,6 +322,7 @@ module _ (b : Beginning) where
             size = by.size ∙ is.size;
             order = put_order actors n (any.Tracer d) (any.Tracer d') there (two_tracers d d') is.order;
             mutators = subst (λ ms. (i : ℕ) (m : Mutating) → slice_get ms i ≡ Some m → IsMutatorOf (limits_of b) m) (sym stay) is.mutators;
+            told = subst (λ ms. (i : ℕ) (m : Mutating) → slice_get ms i ≡ Some m → HasTold execution.history m) (sym stay) is.told;
             decrementers = subst (λ ds. (i : ℕ) (x : DecrementerState) → slice_get ds i ≡ Some x → IsDecrementerOf (limits_of b) x) (sym beside) is.decrementers;
             tracers = subst (λ ts. (i : ℕ) (x : TracerState) → slice_get ts i ≡ Some x → IsTracerOf (limits_of b) x) (sym (at.put d'))
                 (each_set (IsTracerOf (limits_of b)) (tracers_in actors) at.number d' by.helper is.tracers);
@@ -402,8 +395,8 @@ module _ (b : Beginning) where
       let put = mutators_put actors n m m' is.order there in
       let stay = helpers_stay actors n m m' there in
       let beside = tracers_stay actors n m m' there in
-      let thread_states = sym (map-set thread_state_of (mutators_in actors) n m') ∙ ap (map thread_state_of) (sym put) in
-      let same = epoch_state_same (record s { thread_states = slice_set s.thread_states n (thread_state_of m') }) s.tables (map thread_state_of (mutators_in (slice_set actors n (any.Mutator m'))))
+      let thread_states = sym (map-set (shown_in execution.history) (mutators_in actors) n m') ∙ ap (map (shown_in execution.history)) (sym put) in
+      let same = epoch_state_same (record s { thread_states = slice_set s.thread_states n (shown_in execution.history m') }) s.tables (map (shown_in execution.history) (mutators_in (slice_set actors n (any.Mutator m'))))
       (map decrementing_of (decrementers_in (slice_set actors n (any.Mutator m')))) (map tracing_of (tracers_in (slice_set actors n (any.Mutator m'))))
       s.history s.at refl thread_states (ap (map decrementing_of) (sym stay)) (ap (map tracing_of) (sym beside)) refl refl in (
         cleared,
@@ -412,6 +405,7 @@ module _ (b : Beginning) where
           size = is.size;
           order = put_order actors n (any.Mutator m) (any.Mutator m') there (two_mutators m m') is.order;
           mutators = subst (λ ms. (i : ℕ) (x : Mutating) → slice_get ms i ≡ Some x → IsMutatorOf (limits_of b) x) (sym put) (each_set (IsMutatorOf (limits_of b)) (mutators_in actors) n m' by.mutator is.mutators);
+          told = subst (λ ms. (i : ℕ) (x : Mutating) → slice_get ms i ≡ Some x → HasTold execution.history x) (sym put) (each_set (HasTold execution.history) (mutators_in actors) n m' by.told is.told);
           decrementers = subst (λ ds. (i : ℕ) (x : DecrementerState) → slice_get ds i ≡ Some x → IsDecrementerOf (limits_of b) x) (sym stay) is.decrementers;
           tracers = subst (λ ts. (i : ℕ) (x : TracerState) → slice_get ts i ≡ Some x → IsTracerOf (limits_of b) x) (sym beside) is.tracers;
         },
@@ -456,7 +450,7 @@ module _ (b : Beginning) where
   -- each next step fits
   fits_now : (execution : Execution) (n : ℕ) (a : AnyActor) → HoldsExecution b execution → slice_get execution.core.actors n ≡ Some a → Fits any_machine execution.core.words a
   fits_now execution n (any.Mutator m) holds there act e =
-      (each_step b (epoch_state_of b execution holds.0) execution.core.words n m (shows_as b execution holds.0 n m holds.1 there) (subst IsSome (sym e) refl)).fits act e
+      (any_step b (epoch_state_of b execution holds.0) execution.core.words n m (shows_as b execution holds.0 n m holds.1 there) (subst IsSome (sym e) refl)).leads.fits act e
   fits_now execution n (any.Decrementer d) holds there act e =
       let at = helper_at execution.core.actors n d there in
       (helper_step b (epoch_state_of b execution holds.0) execution.core.words at.number d (shows_decrementer b execution holds.0 n d holds.1 at) (subst IsSome (sym e) refl)).fits act e

@@ -1,6 +1,7 @@
 -- An epoch that is opened: what its actors show, and that its invariant holds of the execution that begins.
 use Rattle.std.proofs.Common.{◌≡◌, ◌≢◌, ℕ, zero, suc, ◌+◌, ◌-◌, ◌*◌, ◌/◌, ◌%◌, ◌^◌, ◌<◌, ◌≤◌, refl, sym, ap, subst, ◌∙◌, inl, inr, arith, true, false, List, [], ◌∷◌, length}
 use Rattle.std.specs.Prelude.{All, Option, Some, None, ◌&&◌, if◌then◌else◌, map, not, slice_get, slice_index_or, take, drop}
+use Rattle.std.specs.List.{count_by}
 use Rattle.std.proofs.Math.ListN.{get_or-map}
 use Rattle.std.proofs.lemmas.List.{get_or-drop, get_or-take, length-drop, length-map, length-take-le}
 use Rattle.std.proofs.lemmas.List.Elements.{All-from_get_or}
@@ -11,7 +12,7 @@ use Rattle.lxr_layout.specs.declared.Place.{Place}
 use Rattle.lxr_layout.specs.declared.limits.Limits.{Limits}
 use Rattle.lxr_layout.specs.Objects.{word_count}
 use Rattle.lxr_layout.specs.Spaces.{all_regions, counts_region, region_begin}
-use Rattle.lxr_graph.specs.History.{calls_of, replies_of}
+use Rattle.lxr_graph.specs.History.{Item, calls_of, replies_of}
 use Rattle.lxr_graph.specs.State.{State, next_name, shape_of}
 use Rattle.lxr_mutator.specs.Mutating as mutating
 use Rattle.lxr_image.specs.declared.space.Space.{Space}
@@ -28,8 +29,9 @@ use Rattle.lxr_mutator.specs.declared.phases.MutEnd.{MutEnd}
 use Rattle.lxr_mutator.specs.declared.phases.MutEnd.TheVariants as ends
 use Rattle.lxr_mutator.specs.declared.phases.MutatorPhase.{MutatorPhase}
 use Rattle.lxr_mutator.specs.declared.phases.MutatorPhase.TheVariants as phase
-use Rattle.lxr_mutator.specs.Mutating.{Mutating, nil, rests_in}
+use Rattle.lxr_mutator.specs.Mutating.{Mutating, is_new, nil, rests_in}
 use Rattle.lxr_mutator.specs.Mutators.{AreRegisters, IsHeld, IsMutator, MayBeIn, again, phase_again}
+use Rattle.lxr_mutator.specs.Naming.{all_told_as, looks_up}
 use Rattle.lxr_decrement.specs.Decrementing.{DecrementerState}
 use Rattle.lxr_decrement.specs.Decrementers.{again as empty_again}
 use Rattle.lxr_helper.specs.Indexes.{HaveIndexes}
@@ -51,7 +53,7 @@ use Rattle.lxr_core_invariant.specs.Imaged.{HoldsRegisters}
 use Rattle.lxr_core_invariant.specs.Epoch.{IsEpoch}
 use Rattle.lxr_core_invariant.proofs.HeldLemmas.{in_register}
 use Rattle.lxr_core_invariant.proofs.HeldLemmas as model
-use Rattle.lxr_core_sim_mutator.specs.Showing.{IsMutatorOf, IsSteadyIn, WaitsForNew, reason_by, stage_in, thread_state_of}
+use Rattle.lxr_core_sim_mutator.specs.Showing.{HasTold, IsMutatorOf, IsSteadyIn, WaitsForNew, reason_by, stage_in, told_in}
 use Rattle.lxr_core_sim_mutator.proofs.NamingLemmas.{named_after}
 use Rattle.lxr_core.specs.declared.actors.AnyActor.{AnyActor}
 use Rattle.lxr_core.specs.declared.actors.AnyActor.TheVariants as any
@@ -67,6 +69,7 @@ use Rattle.lxr_core.proofs.OrderLemmas.{AreAlike, SameKind, alike_counts, alike_
 use Rattle.lxr_core.proofs.PocketLemmas.{pockets_filled, stands_in_all}
 use Rattle.lxr_core.proofs.StartingLemmas.{AllRest, AllStart, Starts, StartsIn, anew, opening_epoch_state, over}
 use Rattle.lxr_core.proofs.OpeningLemmas.{opens}
+use Rattle.lxr_core.proofs.ToldLemmas.{has_told, kept_as_told, shown_in, shown_told, told_length, told_news, told_state, told_thread, told_with}
 use Rattle.lxr_image_search.specs.declared.Wanted.TheVariants.{ToScan}
 use Rattle.lxr_image_search.specs.Search.{AvoidsFree}
 use Rattle.lxr_image_search.proofs.SearchLemmas.{avoids_by_starts}
@@ -162,12 +165,45 @@ again_mutator l m registers is rests are = record {
 unended : (m : Mutating) → IsMutator m → m.end ≢ Some ends.Ended → length m.replies.items ≤ length m.operations
 unended m is other = elim is.replies [ inl through ↦ absurd (other through.1) | inr few ↦ few ]
 
+-- and looks no name up
+looks_again : (e : Option MutEnd) → looks_up (phase_again e) ≡ false
+looks_again (Some ends.Ended) = refl
+looks_again e = refl
+
+-- it tells the replies of the history that it rests after
+rest_replies : (l : Limits) (turns : ℕ) (h : List Item) (t : ℕ) (m : Mutating) → RestsAfter l turns h t m → all_told_as m.names (replies_of m.thread h) ≡ m.replies.items
+rest_replies l turns h t m rests = subst (λ n. all_told_as m.names (replies_of n h) ≡ m.replies.items) (sym rests.thread) rests.replies
+
+-- so it has told them
+rest_told : (l : Limits) (turns : ℕ) (h : List Item) (t : ℕ) (m : Mutating) → RestsAfter l turns h t m → HasTold h m
+rest_told l turns h t m rests = has_told h m (looks_at_rest m.phase rests.rests) (rest_replies l turns h t m rests) rests.unnamed
+  where
+    looks_at_rest : (p : MutatorPhase) → rests_in p ≡ true → looks_up p ≡ false
+    looks_at_rest (phase.Referent place) rests = absurd (cc)
+    looks_at_rest p rests = refl
+
+-- and names its next object alike
+same_next : (h : List Item) (m : Mutating) → HasTold h m → mutating.next_name (told_in h m) ≡ mutating.next_name m
+same_next h m told =
+    let thread = told_thread h m in
+    let serial : mutating.made (told_in h m) + 1 ≡ mutating.made m + 1 = ap (λ (y : Mutating). y.before + count_by is_new (told_in h m).replies.items + 1) (told_with h m) ∙ ap (λ n. m.before + n + 1) (told_news h m told) in
+    λ j. record { thread = thread j; serial = serial j }
+
+-- and so it has once it begins again
+again_told : (l : Limits) (turns : ℕ) (h : List Item) (t : ℕ) (m : Mutating) (registers : List Place) → RestsAfter l turns h t m → HasTold h (again m registers)
+again_told l turns h t m registers rests =
+    has_told h (again m registers) (looks_again m.end) (rest_replies l turns h t m rests) rests.unnamed
+
 -- it shows what mutators show as an epoch opens
 again_starts : (b : Beginning) (places : List Place) (i : ℕ) (m : Mutating) → ArePlacesOf b.abstract_state.at places b.abstract_state.moment.state.registers → length places ≡ 16 * (limits_of b).threads
-    → i < (limits_of b).threads → RestsAfter (limits_of b) b.every b.history (i + 1) m → Starts b i (thread_state_of (again m (registers_in places i)))
+    → i < (limits_of b).threads → RestsAfter (limits_of b) b.every b.history (i + 1) m → Starts b i (shown_in b.history (again m (registers_in places i)))
 again_starts b places i m are many less rests =
     let sound = rests.mutator.sound in
-    record {
+    let h : List Item = b.history in
+    let x : Mutating = again m (registers_in places i) in
+    let told = again_told (limits_of b) b.every h (i + 1) m (registers_in places i) rests in
+    let as_many = told_length h x told in
+    subst (Starts b i) (sym (shown_told h x told)) (record {
       thread = rests.thread;
       formed = λ k d h. (sound.setup.operations k d h).0;
       endless = λ k d h. (sound.setup.operations k d h).1;
@@ -175,14 +211,14 @@ again_starts b places i m are many less rests =
       began = subst (λ t. m.before ≡ objects_before t b.history) (sym rests.thread) rests.began;
       few_began = sound.setup.before;
       every = (rests.every, sound.setup.every.0);
-      registers = holds_registers b.abstract_state.moment.state b.abstract_state.at places (limits_of b).threads i (thread_state_of (again m (registers_in places i))) are many less rests.thread refl;
+      registers = holds_registers b.abstract_state.moment.state b.abstract_state.at places (limits_of b).threads i (told_state h x) are many less rests.thread refl;
       log = rests.log;
       spans = rests.spans;
       since = refl;
-      calls = subst (λ t. calls_of t b.history ≡ take (length m.replies.items) (all_of m.operations)) (sym rests.thread) rests.calls;
-      replies = subst (λ t. replies_of t b.history ≡ m.replies.items) (sym rests.thread) rests.replies;
-      stage = stage_again (thread_state_of (again m (registers_in places i))) (again m (registers_in places i)) m.end refl rests.ended (unended m sound);
-    }
+      calls = subst (λ t. calls_of t b.history ≡ take (length m.replies.items) (all_of m.operations)) (sym rests.thread) rests.calls ∙ ap (λ n. take n (all_of m.operations)) (sym as_many);
+      replies = kept_as_told h x (rest_replies (limits_of b) b.every h (i + 1) m rests);
+      stage = stage_again (told_state h x) x m.end refl (λ ended. as_many ∙ rests.ended ended) (λ other. (let few = unended m sound other in omega (arith, as_many, few)));
+    })
 
 -- ---- all of them
 
@@ -339,13 +375,13 @@ module _ (b : Beginning) (before after : List AnyActor) (begins : IsBeginning b)
   was_tracer i d there = tracer_started b.space.registers.items before after rest.helpers.order started i d there
 
   -- all show what mutators show as an epoch opens
-  pub all_start : AllStart b (map thread_state_of (mutators_in after))
+  pub all_start : AllStart b (map (shown_in b.history) (mutators_in after))
   all_start = record {
-    as_many = length-map (mutators_in after) thread_state_of ∙ (alike_counts before after (again_alike b.space.registers.items before after started) ∙ rest.mutators.as_many);
+    as_many = length-map (mutators_in after) (shown_in b.history) ∙ (alike_counts before after (again_alike b.space.registers.items before after started) ∙ rest.mutators.as_many);
     each = λ i v shown.
-        let (m, there, same) = mapped_from thread_state_of (mutators_in after) i v shown in
+        let (m, there, same) = mapped_from (shown_in b.history) (mutators_in after) i v shown in
         let old = was_mutator i m there in
-        subst (Starts b i) (sym (same ∙ ap thread_state_of old.is)) (again_starts b b.space.registers.items i old.was are many (below_threads i old.was old.stood) (rest.mutators.each i old.was old.stood));
+        subst (Starts b i) (sym (same ∙ ap (shown_in b.history) old.is)) (again_starts b b.space.registers.items i old.was are many (below_threads i old.was old.stood) (rest.mutators.each i old.was old.stood));
   }
 
   -- all are mutators still
@@ -356,6 +392,12 @@ module _ (b : Beginning) (before after : List AnyActor) (begins : IsBeginning b)
       subst (IsMutatorOf (limits_of b)) (sym old.is)
       (again_mutator (limits_of b) old.was (registers_in b.space.registers.items i) rests.mutator rests.rests
       (record { sixteen = sixteen_of b.space.registers.items (limits_of b).threads i many (below_threads i old.was old.stood); held = registers_held b.space.registers.items i places_held }))
+
+  -- all have told the replies of the history
+  pub all_told : (i : ℕ) (m : Mutating) → slice_get (mutators_in after) i ≡ Some m → HasTold b.history m
+  all_told i m there =
+      let old = was_mutator i m there in
+      subst (HasTold b.history) (sym old.is) (again_told (limits_of b) b.every b.history (i + 1) old.was (registers_in b.space.registers.items i) (rest.mutators.each i old.was old.stood))
 
   -- all decrementers are so still
   pub all_helpers : (i : ℕ) (d : DecrementerState) → slice_get (decrementers_in after) i ≡ Some d → IsDecrementerOf (limits_of b) d
@@ -431,10 +473,12 @@ may_all_fill g before actors begun may is i x there =
 fits_after : (b : Beginning) (t : ℕ) (m : Mutating) → IsBeginning b → 1 ≤ t → t ≤ (limits_of b).threads → RestsAfter (limits_of b) b.every b.history t m → FitsThread (limits_of b) b.abstract_state.moment.state.graph t m
 fits_after b t m begins some few rests =
     let thread = rests.thread in
-    let first : 1 ≤ m.thread = omega (arith, thread, some) in
-    let last : m.thread ≤ (limits_of b).threads = omega (arith, thread, few) in
-    let named = named_after (limits_of b).threads b.history m begins.counted (subst (λ n. m.before ≡ objects_before n b.history) (sym thread) rests.began) first last
-    (subst (λ n. replies_of n b.history ≡ m.replies.items) (sym thread) rests.replies) in
+    let h : List Item = b.history in
+    let x : Mutating = told_in h m in
+    let own : x.thread ≡ t = told_thread h m ∙ thread in
+    let told = rest_told (limits_of b) b.every h t m rests in
+    let named = named_after (limits_of b).threads h x begins.counted (ap (λ (y : Mutating). y.before) (told_with h m) ∙ rests.began ∙ ap (λ n. objects_before n h) (sym own)) (omega (arith, own, some)) (omega (arith, own, few))
+    (ap (λ n. replies_of n h) own ∙ ap (λ n. replies_of n h) (sym thread) ∙ kept_as_told h m (rest_replies (limits_of b) b.every h t m rests)) in
     record {
       mutator = rests.mutator;
       thread = thread;
@@ -442,7 +486,7 @@ fits_after b t m begins some few rests =
       spans = rests.spans;
       rests = rests.rests;
       name = subst (λ (z : Moment). next_name z.state.graph t ≡ mutating.next_name m) (sym begins.moment)
-          (subst (λ n. next_name (moment (limits_of b).threads b.history).state.graph n ≡ mutating.next_name m) thread named);
+          (ap (next_name (moment (limits_of b).threads h).state.graph) (sym own) ∙ named ∙ same_next h m told);
     }
 
 -- so an epoch may be opened
@@ -472,18 +516,18 @@ epoch_state_with b t thread_states ds ts = record { tables = t; thread_states = 
 -- the epoch state of the execution that begins
 epoch_state_opened : (b : Beginning) (after : Space) (actors : List AnyActor) → after.limits ≡ b.space.limits
     → tables_of after ≡ record (tables_of b.space) { cursors = changed (tables_of b.space).cursors PAUSE_WORD 0 }
-    → opening_epoch_state b (map thread_state_of (mutators_in actors)) (map decrementing_of (decrementers_in actors)) (map tracing_of (tracers_in actors)) ≡ epoch_state_of b (execution_at b after actors) []
+    → opening_epoch_state b (map (shown_in b.history) (mutators_in actors)) (map decrementing_of (decrementers_in actors)) (map tracing_of (tracers_in actors)) ≡ epoch_state_of b (execution_at b after actors) []
 epoch_state_opened b after actors limits tables =
     let same : tables_in b.space.limits after.words ≡ record (tables_of b.space) { cursors = changed (tables_of b.space).cursors PAUSE_WORD 0 } =
     ap (λ l. tables_in l after.words) (sym limits) ∙ tables in
-    ap (λ t. epoch_state_with b t (map thread_state_of (mutators_in actors)) (map decrementing_of (decrementers_in actors)) (map tracing_of (tracers_in actors))) (sym same)
+    ap (λ t. epoch_state_with b t (map (shown_in b.history) (mutators_in actors)) (map decrementing_of (decrementers_in actors)) (map tracing_of (tracers_in actors))) (sym same)
 
 -- the invariant of the epoch holds
 holds : (b : Beginning) (after : Space) (before now : List AnyActor) → b.space.pauses < 2 ^ 32 → length before < 2 ^ 63 → Begins b b.space before → Opens b.space after before now → HoldsExecution b (execution_at b after now)
 holds b after before now pauses few is opened =
     let limits : after.limits ≡ b.space.limits = ap (λ s. s.limits) opened.space.rest in
     let start = all_start b before now is.begins is.actors_rest opened.actors in
-    let epoch = opens b (map thread_state_of (mutators_in now)) (map decrementing_of (decrementers_in now)) (map tracing_of (tracers_in now)) is.begins pauses start (helpers_rest b before now is.begins is.actors_rest opened.actors few) is.few is.unasked in
+    let epoch = opens b (map (shown_in b.history) (mutators_in now)) (map decrementing_of (decrementers_in now)) (map tracing_of (tracers_in now)) is.begins pauses start (helpers_rest b before now is.begins is.actors_rest opened.actors few) is.few is.unasked in
     let size : (tables_in after.limits after.words).size ≡ region_begin b.space.limits all_regions = ap (λ t. t.size) opened.space.tables ∙ is.begins.between.safepoint.holds.space.size in (
       [],
       record {
@@ -491,6 +535,7 @@ holds b after before now pauses few is opened =
         size = sym (size_is after.limits after.words) ∙ size;
         order = started_order b.space.registers.items before now is.actors_rest.helpers.order opened.actors;
         mutators = all_mutators b before now is.begins is.actors_rest opened.actors;
+        told = all_told b before now is.begins is.actors_rest opened.actors;
         decrementers = all_helpers b before now is.begins is.actors_rest opened.actors;
         tracers = all_tracers b before now is.begins is.actors_rest opened.actors opened.pockets;
       },

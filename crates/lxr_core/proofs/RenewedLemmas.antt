@@ -1,5 +1,5 @@
 -- A mutator that rests for a history rests behind a renewal of names too, once it begins anew: with no calls, no replies, and its thread's objects.
-use Rattle.std.proofs.Common.{◌≡◌, ◌≢◌, ℕ, ◌≤◌, arith, false, true, refl, ◌∙◌, sym, inr, List, ◌∷◌, length, length-drop}
+use Rattle.std.proofs.Common.{◌≡◌, ◌≢◌, ℕ, ◌≤◌, arith, Bool, false, true, refl, ◌∙◌, sym, inr, List, [], ◌∷◌, length, length-drop}
 use Rattle.std.specs.Prelude.{Some}
 use Rattle.std.proofs.lemmas.List.Elements.{All-drop}
 use Rattle.lxr_layout.specs.declared.TheConstants.{MOST_GRANULES}
@@ -11,6 +11,7 @@ use Rattle.lxr_mutator.specs.declared.phases.MutatorPhase.{MutatorPhase}
 use Rattle.lxr_mutator.specs.declared.phases.MutatorPhase.TheVariants as phase
 use Rattle.lxr_mutator.specs.Mutating.{IsWaiting, Mutating, rests_in}
 use Rattle.lxr_mutator.specs.Mutators.{IsMutator, IsOperation, MayBeIn, renewed}
+use Rattle.lxr_mutator.specs.Naming.{all_told_as}
 use Rattle.lxr_core_invariant.specs.EpochStates.{objects_before}
 use Rattle.lxr_core_sim_mutator.specs.Showing.{IsSteadyIn}
 use Rattle.lxr_core.specs.Resting.{RestsAfter}
@@ -53,6 +54,11 @@ module _ (m : Mutating) (before : ℕ) where
         phase = still_in m.phase rests;
       }
 
+-- no replies are told as none
+none_told : (c : Bool) → all_told_as c [] ≡ []
+none_told true = refl
+none_told false = refl
+
 -- it rests behind the renewal
 pub renewed_rests : (l : Limits) (turns : ℕ) (h : List Item) (ns : List Name) (t before : ℕ) (m : Mutating) → RestsAfter l turns h t m → ¬ IsWaiting m → m.end ≢ Some ends.Ended → before ≤ MOST_GRANULES
     → before ≡ objects_before t (Renew ns ∷ h) → RestsAfter l turns (Renew ns ∷ h) t (renewed m before)
@@ -70,7 +76,8 @@ renewed_rests l turns h ns t before m is idle goes_on few counts =
       spans = is.spans;
       rests = is.rests;
       calls = refl;
-      replies = refl;
+      replies = none_told m.names;
+      unnamed = is.unnamed;
       began = counts;
       ended = λ e. absurd (goes_on e);
     }

@@ -17,7 +17,7 @@ use Rattle.lxr_trace.specs.Tracing.{TracerState}
 use Rattle.lxr_core_invariant.specs.EpochStates.{Beginning, EpochState, limits_of}
 use Rattle.lxr_core_invariant.specs.Epoch.{IsEpoch}
 use Rattle.lxr_core_invariant.specs.Laws.{HaveNotFallen}
-use Rattle.lxr_core_sim_mutator.specs.Showing.{IsMutatorOf, thread_state_of}
+use Rattle.lxr_core_sim_mutator.specs.Showing.{HasTold, IsMutatorOf, thread_state_of, told_in}
 use Rattle.lxr_core_sim_mutator.specs.Stepping.{history_after, places_after}
 use Rattle.lxr_core_sim_helpers.specs.DecrementerShowing.{IsDecrementerOf, decrementing_of}
 use Rattle.lxr_core_sim_helpers.specs.TracerShowing.{IsTracerOf, tracing_of}
@@ -31,11 +31,11 @@ pub record Execution : Type 0 where
   pub history : List Item
   pub at : Name → ℕ
 
--- the epoch state of an execution, where these references' bits were cleared
+-- The epoch state of an execution, where these references' bits were cleared. Who tells no names shows the replies of the history.
 abbrev pub epoch_state_of : Beginning → Execution → List Field → EpochState
 epoch_state_of b execution cleared = record {
   tables = tables_in (limits_of b) execution.core.words;
-  thread_states = map thread_state_of (mutators_in execution.core.actors);
+  thread_states = map (λ m. thread_state_of (told_in execution.history m)) (mutators_in execution.core.actors);
   decrementers = map decrementing_of (decrementers_in execution.core.actors);
   tracers = map tracing_of (tracers_in execution.core.actors);
   history = execution.history;
@@ -74,6 +74,8 @@ pub record IsExecution (b : Beginning) (execution : Execution) (cleared : List F
   pub size : length execution.core.words ≡ region_begin (limits_of b) all_regions
   pub order : AreInOrder execution.core.actors
   pub mutators : (i : ℕ) (m : Mutating) → slice_get (mutators_in execution.core.actors) i ≡ Some m → IsMutatorOf (limits_of b) m
+  -- who tells no names replies as the history, without its names
+  pub told : (i : ℕ) (m : Mutating) → slice_get (mutators_in execution.core.actors) i ≡ Some m → HasTold execution.history m
   pub decrementers : (i : ℕ) (d : DecrementerState) → slice_get (decrementers_in execution.core.actors) i ≡ Some d → IsDecrementerOf (limits_of b) d
   pub tracers : (i : ℕ) (d : TracerState) → slice_get (tracers_in execution.core.actors) i ≡ Some d → IsTracerOf (limits_of b) d
 

@@ -1,5 +1,5 @@
 -- Orders while an epoch runs: a mutator that rests gets one more operation, if it has room for it.
-use Rattle.std.specs.Prelude.{◌≡◌, ◌≢◌, ℕ, ◌+◌, ◌≤◌, ◌==◌, if◌then◌else◌, Some, List, [], ◌∷◌, ◌++◌, length, map, slice_get, slice_set}
+use Rattle.std.specs.Prelude.{◌≡◌, ◌≢◌, ℕ, ◌+◌, ◌≤◌, ◌==◌, if◌then◌else◌, Bool, Some, List, [], ◌∷◌, ◌++◌, length, map, slice_get, slice_set}
 use Rattle.std.specs.Option.{option_map_or}
 use Rattle.lxr_graph.specs.declared.Op.{Op}
 use Rattle.lxr_graph.specs.declared.Op.TheVariants as op
@@ -93,3 +93,9 @@ pub record KeepsScript (core : Core AnyActor) (schedule : List Event) : Type 0 w
 -- so it is after every schedule, whatever orders are in it, where no mutator had room
 abbrev pub ScriptsStay : Type 0
 ScriptsStay = (core : Core AnyActor) (schedule : List Event) → AreFull (mutators_in core.actors) → KeepsScript core schedule
+
+-- ---- mutators that tell names
+
+-- each of these tells the names of what it loads and swaps out, or none does
+abbrev pub TellNames : Bool → List Mutating → Type 0
+TellNames names mutators = (i : ℕ) (m : Mutating) → slice_get mutators i ≡ Some m → m.names ≡ names

@@ -8,6 +8,7 @@ use Rattle.lxr_model.specs.Belongs.{calls_since_pause, has_asked}
 use Rattle.lxr_mutator.specs.declared.phases.MutEnd.TheVariants as ends
 use Rattle.lxr_mutator.specs.Mutating.{IsWaiting, Mutating, rests_in}
 use Rattle.lxr_mutator.specs.Mutators.{no_spans}
+use Rattle.lxr_mutator.specs.Naming.{all_told_as, blank_end}
 use Rattle.lxr_decrement.specs.Decrementing.{DecrementerState}
 use Rattle.lxr_decrement.specs.Steps.{decrementer_machine}
 use Rattle.lxr_trace.specs.Tracing.{TracerState}
@@ -53,7 +54,7 @@ pub record FitSpace (l : Limits) (graph : Graph) (actors : List AnyActor) : Type
   pub helpers : HelpersRest l actors
 
 -- The mutator of a thread rests after a history, in a space of these limits: it has done a beginning of its operations, each
--- once and in order, with the replies of the history; its log is empty, and so are its spans.
+-- once and in order, with the replies of the history, which it tells with names or without; its log is empty, and so are its spans.
 pub record RestsAfter (l : Limits) (turns : ℕ) (h : List Item) (t : ℕ) (m : Mutating) : Type 0 where
   pub mutator : IsMutatorOf l m
   pub thread : m.thread ≡ t
@@ -62,7 +63,9 @@ pub record RestsAfter (l : Limits) (turns : ℕ) (h : List Item) (t : ℕ) (m : 
   pub spans : m.spans ≡ no_spans
   pub rests : rests_in m.phase ≡ true
   pub calls : calls_of t h ≡ take (length m.replies.items) (all_of m.operations)
-  pub replies : replies_of t h ≡ m.replies.items
+  pub replies : all_told_as m.names (replies_of t h) ≡ m.replies.items
+  -- who tells no names has ended its last unit without one
+  pub unnamed : m.names ≡ false → blank_end m.end ≡ m.end
   -- it counts from the objects that its thread began with
   pub began : m.before ≡ objects_before t h
   -- where it has ended, all operations and the end have replies

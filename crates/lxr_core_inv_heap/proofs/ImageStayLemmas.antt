@@ -17,6 +17,7 @@ use Rattle.lxr_image.specs.Image.{IsImage}
 use Rattle.lxr_model.specs.Moments.{Field, Moment, after_call, made_after, moment}
 use Rattle.lxr_model.proofs.HistoryLemmas.{made_old}
 use Rattle.lxr_model_counting.specs.Following.{FollowsPause}
+use Rattle.lxr_model_counting.proofs.ReplyLemmas.{state_after_step}
 use Rattle.lxr_invariant.specs.AbstractState.{members}
 use Rattle.lxr_invariant.proofs.NameLemmas.{in_either, in_first, in_second}
 use Rattle.lxr_invariant.proofs.FrameLemmas.{image_still}
@@ -25,7 +26,6 @@ use Rattle.lxr_core_invariant.specs.EpochStates.{Beginning, Extends, EpochState,
 use Rattle.lxr_core_invariant.specs.Epoch.{IsEpoch}
 use Rattle.lxr_core_invariant.specs.Imaged.{IsPlacedIn, Knows}
 use Rattle.lxr_core_invariant.specs.Happening.{stands}
-use Rattle.lxr_core_invariant.proofs.ObjectLemmas.{state_after_step}
 use Rattle.lxr_core_inv_heap.proofs.ImageKnowLemmas.{KeepsMembers, KeepsWiped, all_kept, knows_on, still_placed}
 
 -- ---- what was a member is one

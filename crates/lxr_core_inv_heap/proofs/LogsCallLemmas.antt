@@ -16,10 +16,10 @@ use Rattle.lxr_graph.proofs.RowLemmas.{next_none}
 use Rattle.lxr_image.specs.ImageLaws.{placed}
 use Rattle.lxr_model.specs.Moments.{Moment, written_after}
 use Rattle.lxr_model_counting.specs.Following.{FollowsPause}
+use Rattle.lxr_model_counting.proofs.ReplyLemmas.{state_after_step}
 use Rattle.lxr_model_counting.proofs.StoreLemmas.{step_keeps}
 use Rattle.lxr_core_invariant.specs.ThreadStates.{ThreadState, held}
 use Rattle.lxr_core_invariant.specs.Events.{at_once}
-use Rattle.lxr_core_invariant.proofs.ObjectLemmas.{state_after_step}
 
 -- ---- the moment after a call with the reply of a step
 

@@ -1,20 +1,16 @@
 -- What one call more changes of what a history says of a thread, and what it leaves as it is.
-use Rattle.std.proofs.Common.{◌≡◌, ◌≢◌, ℕ, suc, ◌+◌, ◌<◌, ◌≤◌, refl, ap, ◌∙◌, inl, inr, List, [], ◌∷◌, ◌++◌, IsTrue, length, take}
+use Rattle.std.proofs.Common.{◌≡◌, ◌≢◌, ℕ, suc, ◌+◌, refl, ap, ◌∙◌, inl, inr, List, [], ◌∷◌, ◌++◌, IsTrue, take}
 use Rattle.std.specs.Prelude.{Some, slice_get, ◌||◌, ◌&&◌, if◌then◌else◌}
 use Rattle.std.proofs.lemmas.List.{take_more}
 use Rattle.std.proofs.lemmas.Option.{slice_get_within, get_or_from_slice_get}
 use Rattle.lxr_layout.specs.declared.Name.{Name}
 use Rattle.lxr_graph.specs.declared.Op.{Op}
-use Rattle.lxr_graph.specs.declared.Op.TheVariants as op
 use Rattle.lxr_graph.specs.declared.Reply.{Reply}
 use Rattle.lxr_graph.specs.Names.{has}
-use Rattle.lxr_graph.specs.State.{State}
-use Rattle.lxr_graph.specs.Step.{step}
 use Rattle.lxr_graph.specs.History.{Call, Item, calls_of, replies_of}
 use Rattle.lxr_model.specs.Belongs.{asks_for_pause, calls_since_pause, has_asked}
 use Rattle.lxr_model.specs.Moments.{Moment, after_call, made_after}
 use Rattle.lxr_model.proofs.HistoryLemmas.{made_old}
-use Rattle.lxr_model_counting.specs.Following.{IsStepReply}
 use Rattle.lxr_invariant.specs.AbstractState.{members}
 use Rattle.lxr_invariant.proofs.NameLemmas.{in_either, in_first, in_second}
 use Rattle.lxr_invariant.proofs.EntryLemmas.{same_number, unlike_number}
@@ -56,22 +52,6 @@ own_since t o r h = ap (λ b. if b then suc (calls_since_pause t h) else calls_s
 -- and whether it asks for a pause
 pub own_asked : (t : ℕ) (o : Op) (r : Reply) (h : List Item) → has_asked t (Call t o r ∷ h) ≡ (asks_for_pause o || has_asked t h)
 own_asked t o r h = ap (λ b. (b && asks_for_pause o) || has_asked t h) (same_number t t refl)
-
--- the reply of a step is that of a step, in a graph that has the thread
-pub steps_reply : (s : State) (t : ℕ) (o : Op) → t < length s.graph → 1 ≤ t → IsStepReply s t o (step s t o).1
-steps_reply s t (op.New dest shape) within some = (refl, within, some)
-steps_reply s t (op.Load dest base index) within some = (refl, within, some)
-steps_reply s t (op.Store base index source) within some = (refl, within, some)
-steps_reply s t (op.Put base index value) within some = (refl, within, some)
-steps_reply s t (op.Get base index) within some = (refl, within, some)
-steps_reply s t (op.Swap dest base index source) within some = (refl, within, some)
-steps_reply s t (op.Add base index value) within some = (refl, within, some)
-steps_reply s t (op.Move dest source) within some = (refl, within, some)
-steps_reply s t (op.Nil dest) within some = (refl, within, some)
-steps_reply s t (op.Same left right) within some = (refl, within, some)
-steps_reply s t op.Pause within some = (refl, within, some)
-steps_reply s t op.Collect within some = (refl, within, some)
-steps_reply s t op.End within some = (refl, within, some)
 
 -- members stay over a call
 pub members_stay : (m : Moment) (t : ℕ) (o : Op) (r : Reply) (n : Name) → IsTrue (has (members m) n) → IsTrue (has (members (after_call m t o r)) n)

@@ -10,6 +10,7 @@ use Rattle.lxr_graph.specs.declared.Reply.TheVariants as reply
 use Rattle.lxr_graph.specs.Names.{has}
 use Rattle.lxr_graph.specs.State.{State, next_name}
 use Rattle.lxr_graph.specs.Step.{state_after, step}
+use Rattle.lxr_model_counting.proofs.ReplyLemmas.{state_after_step}
 use Rattle.lxr_image.specs.Image.{place_word}
 use Rattle.lxr_image.specs.ImageLaws.{placed}
 use Rattle.lxr_invariant.specs.AbstractState.{members}
@@ -22,7 +23,6 @@ use Rattle.lxr_core_invariant.specs.Imaged.{HoldsRegisters}
 use Rattle.lxr_core_invariant.specs.Epoch.{IsEpoch}
 use Rattle.lxr_core_invariant.specs.Laws.{RegistersAreKept}
 use Rattle.lxr_core_invariant.proofs.ShowingLemmas.{op_formed, shown_cases}
-use Rattle.lxr_core_invariant.proofs.ObjectLemmas.{state_after_step}
 use Rattle.lxr_core_invariant.proofs.ActingLemmas.{acts}
 use Rattle.lxr_core_inv_history.proofs.RegisterLemmas.{holds_by, step_other}
 use Rattle.lxr_core_inv_history.proofs.AnswerLemmas.{Answers}

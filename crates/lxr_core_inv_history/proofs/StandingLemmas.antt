@@ -17,6 +17,7 @@ use Rattle.lxr_model.specs.Belongs.{asks_for_pause, calls_since_pause, has_asked
 use Rattle.lxr_model.specs.Moments.{moment}
 use Rattle.lxr_model_counting.specs.Following.{FollowsPause}
 use Rattle.lxr_model_counting.proofs.FollowingLemmas.{call_follows}
+use Rattle.lxr_model_counting.proofs.ReplyLemmas.{step_reply}
 use Rattle.lxr_invariant.specs.AbstractState.{members}
 use Rattle.lxr_invariant.proofs.EntryLemmas.{equal_numbers, same_number}
 use Rattle.lxr_invariant.proofs.NameLemmas.{or_nothing}
@@ -32,7 +33,7 @@ use Rattle.lxr_core_invariant.specs.Epoch.{IsEpoch}
 use Rattle.lxr_core_invariant.specs.Laws.{HasHistory, RepliesAs}
 use Rattle.lxr_core_invariant.proofs.ActingLemmas.{acts}
 use Rattle.lxr_core_invariant.proofs.ShowingLemmas.{op_formed}
-use Rattle.lxr_core_inv_history.proofs.CallLemmas.{SaySame, members_stay, other_call, own_asked, own_calls, own_replies, own_since, says_same, steps_reply, take_next}
+use Rattle.lxr_core_inv_history.proofs.CallLemmas.{SaySame, members_stay, other_call, own_asked, own_calls, own_replies, own_since, says_same, take_next}
 use Rattle.lxr_core_inv_history.proofs.BusyLemmas.{IsBusy, end_is_last, ends_by, others_before_end}
 use Rattle.lxr_core_inv_history.proofs.KeepLemmas.{Keeps, all_called, asking_sets}
 
@@ -76,7 +77,7 @@ history_goes_on b s i v o is shows busy does =
     record {
       extends = called s.history v.thread o (step (moment_of b s).state v.thread o).1 is.extends may;
       lives = call_follows (moment_of b s) v.thread o (step (moment_of b s).state v.thread o).1 is.lives may.formed
-          (steps_reply (moment_of b s).state v.thread o known.row known.thread);
+          (step_reply (moment_of b s).state v.thread o known.row known.thread);
     }
 
 -- ---- what the history says of the thread once its operation stands in it

@@ -6,15 +6,15 @@ use Rattle.std.proofs.lemmas.Option.{slice_get_within}
 use Rattle.lxr_layout.specs.declared.TheConstants.{PAUSE_WORD}
 use Rattle.lxr_graph.specs.declared.Op.{Op}
 use Rattle.lxr_graph.specs.declared.Op.TheVariants as op
-use Rattle.lxr_graph.specs.History.{replies_of}
 use Rattle.lxr_model.specs.Belongs.{writes_reference}
 use Rattle.lxr_core_invariant.specs.ThreadStates.{Reason, Stage, ThreadState, all_of, op_now, Rests, Works, Names, Through}
 use Rattle.lxr_core_invariant.specs.ThreadStates as why
 use Rattle.lxr_core_invariant.specs.EpochStates.{Beginning, EpochState}
 use Rattle.lxr_core_invariant.specs.Events.{Does}
-use Rattle.lxr_core_invariant.specs.Called.{AreReplies, IsWithinTurn, SetsPauseWord, waiting_in}
+use Rattle.lxr_core_invariant.specs.Called.{IsWithinTurn, SetsPauseWord}
 use Rattle.lxr_core_invariant.specs.Epoch.{IsEpoch, IsResting}
 use Rattle.lxr_core_invariant.specs.Through.{CallsAreBeginnings, CausesPause, HasCause, IsAsHistory, RestIsHistory, WantedHasCause, next_by}
+use Rattle.lxr_core_invariant.proofs.RestLemmas.{all_replied, none_waits}
 use Rattle.lxr_core_inv_history.proofs.StandingLemmas.{thread_within}
 
 -- ---- calls and replies
@@ -22,20 +22,6 @@ use Rattle.lxr_core_inv_history.proofs.StandingLemmas.{thread_within}
 -- calls are a beginning of the operations
 pub calls_are_beginnings : CallsAreBeginnings
 calls_are_beginnings b s i v is shown = (is.called.each i v shown).calls
-
--- no operation of a mutator that rests stands in the history without its reply
-none_waits : (stage : Stage) → IsResting stage → waiting_in stage ≡ 0
-none_waits Rests rests = refl
-none_waits (Through why) rests = refl
-none_waits (Works intent) rests = absurd rests
-none_waits (Names place) rests = absurd rests
-
--- the replies of one that rests are all there
-all_replied : (b : Beginning) (s : EpochState) (v : ThreadState) (stage : Stage) → IsResting stage → AreReplies b s v stage → replies_of v.thread s.history ≡ v.replies
-all_replied b s v Rests rests are = are
-all_replied b s v (Through why) rests are = are
-all_replied b s v (Works intent) rests are = absurd rests
-all_replied b s v (Names place) rests are = absurd rests
 
 -- what a mutator that rests has called and replied
 rest_calls : (b : Beginning) (s : EpochState) (i : ℕ) (v : ThreadState) → IsEpoch b s → slice_get s.thread_states i ≡ Some v → IsResting v.stage → IsAsHistory s v

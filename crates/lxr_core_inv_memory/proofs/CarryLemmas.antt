@@ -14,6 +14,7 @@ use Rattle.lxr_image.specs.Image.{granules_of}
 use Rattle.lxr_model.specs.Moments.{Field, Moment, after_call}
 use Rattle.lxr_model.proofs.HistoryLemmas.{made_cases, made_old}
 use Rattle.lxr_model_counting.specs.Following.{FollowsPause, HasShapeOf}
+use Rattle.lxr_model_counting.proofs.ReplyLemmas.{state_after_step}
 use Rattle.lxr_model_counting.proofs.StoreLemmas.{step_keeps}
 use Rattle.lxr_invariant.specs.AbstractState.{members}
 use Rattle.lxr_invariant.specs.Lines.{Covers}
@@ -22,7 +23,6 @@ use Rattle.lxr_core_invariant.specs.ThreadStates.{ThreadState}
 use Rattle.lxr_core_invariant.specs.EpochStates.{Beginning, EpochState, moment_of}
 use Rattle.lxr_core_invariant.specs.Drawn.{IsOfMember}
 use Rattle.lxr_core_invariant.specs.Epoch.{IsEpoch}
-use Rattle.lxr_core_invariant.proofs.ObjectLemmas.{state_after_step}
 use Rattle.lxr_core_invariant.proofs.ActingLemmas.{acts}
 
 -- ---- what a call that isn't a `new` makes

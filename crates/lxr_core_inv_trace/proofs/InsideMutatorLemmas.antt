@@ -19,10 +19,10 @@ use Rattle.lxr_model.proofs.StepLemmas.{step_refers}
 use Rattle.lxr_model_counting.specs.Following.{FollowsPause}
 use Rattle.lxr_model_counting.specs.Garbage.{IsGarbageOf}
 use Rattle.lxr_model_counting.proofs.FollowingLemmas.{live_before, live_reachable, stepped, unreclaimed_object}
+use Rattle.lxr_model_counting.proofs.ReplyLemmas.{state_after_step}
 use Rattle.lxr_invariant.specs.Tracing.{IsInSnapshot, StaysGarbage}
 use Rattle.lxr_core_access.specs.Tracers.{Tracing}
 use Rattle.lxr_core_invariant.specs.Inside.{StaysInside}
-use Rattle.lxr_core_invariant.proofs.ObjectLemmas.{state_after_step}
 
 -- ---- tables and places
 

@@ -20,6 +20,7 @@ use Rattle.lxr_image.specs.Image.{place_word}
 use Rattle.lxr_model.specs.Moments.{Moment}
 use Rattle.lxr_model_counting.specs.Distinct.{has_field}
 use Rattle.lxr_model_counting.proofs.DistinctLemmas.{tested}
+use Rattle.lxr_model_counting.proofs.ReplyLemmas.{state_after_step}
 use Rattle.lxr_model_counting.proofs.StoreLemmas.{WritesField, step_keeps}
 use Rattle.lxr_invariant.specs.AbstractState.{members}
 use Rattle.lxr_invariant.specs.Standing.{word_of_field}
@@ -34,7 +35,6 @@ use Rattle.lxr_core_invariant.specs.Imaged.{Knows, KnowsReference}
 use Rattle.lxr_core_invariant.specs.Epoch.{IsEpoch}
 use Rattle.lxr_core_invariant.proofs.ActingLemmas.{Acts, IsBase, acts, base_held, base_nil, same_pair}
 use Rattle.lxr_invariant.proofs.FieldLemmas.{field_found}
-use Rattle.lxr_core_invariant.proofs.ObjectLemmas.{state_after_step}
 use Rattle.lxr_core_invariant.proofs.ShowingLemmas.{op_formed}
 use Rattle.lxr_core_invariant.proofs.TellingLemmas.{told_is}
 use Rattle.lxr_core_inv_trace.proofs.SnapshotFindLemmas.{HeldThen, HoldsNow}

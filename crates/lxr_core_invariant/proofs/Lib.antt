@@ -8,3 +8,4 @@ pub mod PauseLemmas
 pub mod FieldLemmas
 pub mod ReplyStepLemmas
 pub mod ReadLemmas
+pub mod RestLemmas

@@ -20,6 +20,7 @@ use Rattle.lxr_model.specs.Legal.{IsCall, IsLegalSoFar, Replies}
 use Rattle.lxr_model.specs.Moments.{moment, opening_moment}
 use Rattle.lxr_model.specs.Terms.{Terms}
 use Rattle.lxr_model.proofs.UnrenewedLemmas.{IsUnrenewed}
+use Rattle.lxr_model_counting.proofs.ReplyLemmas.{state_after_step}
 use Rattle.lxr_core_invariant.specs.EpochStates.{CountsObjects, Extends, called, objects_before, same, tells_new}
 
 -- how many objects a reply tells of, and how many of thread u a reply to thread t does
@@ -153,22 +154,6 @@ step_counts s t (op.Same left right) there = unchanged s t s.registers (reply.Sa
 step_counts s t op.Pause there = unchanged s t s.registers reply.Paused refl
 step_counts s t op.Collect there = unchanged s t s.registers reply.Collected refl
 step_counts s t op.End there = unchanged s t _ reply.Ended refl
-
--- the state after a call with the reply of a step is that of the step
-pub state_after_step : (s : State) (t : ℕ) (o : Op) → state_after s t o (step s t o).1 ≡ (step s t o).0
-state_after_step s t (op.New dest shape) = refl
-state_after_step s t (op.Load dest base index) = refl
-state_after_step s t (op.Store base index source) = refl
-state_after_step s t (op.Put base index value) = refl
-state_after_step s t (op.Get base index) = refl
-state_after_step s t (op.Swap dest base index source) = refl
-state_after_step s t (op.Add base index value) = refl
-state_after_step s t (op.Move dest source) = refl
-state_after_step s t (op.Nil dest) = refl
-state_after_step s t (op.Same left right) = refl
-state_after_step s t op.Pause = refl
-state_after_step s t op.Collect = refl
-state_after_step s t op.End = refl
 
 after_counts : (s : State) (t : ℕ) (o : Op) (r : Reply) → t < length s.graph → IsReply s t o r → CountsMore s t (state_after s t o r) r
 after_counts s t o r there is = subst (λ x. CountsMore s t (state_after s t o x) x) is (subst (λ x. CountsMore s t x (step s t o).1) (sym (state_after_step s t o)) (step_counts s t o there))

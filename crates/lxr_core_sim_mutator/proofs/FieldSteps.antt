@@ -1,5 +1,5 @@
 -- The steps of loads, gets, puts and adds on the field that they work on.
-use Rattle.std.proofs.Common.{◌≡◌, ℕ, ◌^◌, arith, refl, sym, subst, ap, ◌∙◌}
+use Rattle.std.proofs.Common.{◌≡◌, ℕ, arith, refl, sym, subst, ap, ◌∙◌}
 use Rattle.std.specs.Prelude.{List, Some, nat_eq, slice_set}
 use Rattle.lxr_layout.specs.declared.TheConstants.{MOST_GRANULES}
 use Rattle.lxr_layout.specs.declared.Name.{Name}
@@ -67,8 +67,8 @@ reference_step b s words i m base shows =
       event = epoch.LoadsReference (op_now n) (dest_of (op_now n)) base.0 index;
       may = record { stage = refl; does = now_shown n goes; loads = load_parts (op_now n) shows.mutator.steady };
       tables = refl;
-      thread_states = ap (slice_set s.thread_states i) (sym (taken_shown n p (nat_eq p.0 0) goes.since (no_end_now n goes more)));
-      mutator = taken_kept l n p (nat_eq p.0 0) goes shows.mutator.regions more (ap takes_reference shows.mutator.steady.3) (omega (arith, low)) refl;
+      thread_states = ap (slice_set s.thread_states i) (sym (taken_shown n p (nat_eq p.0 0) shows.names goes.since (no_end_now n goes more)));
+      mutator = taken_kept l n p (nat_eq p.0 0) shows.names goes shows.mutator.regions more (ap takes_reference shows.mutator.steady.3) (omega (arith, low)) refl;
       history = refl;
       places = refl;
     }))

@@ -1,5 +1,5 @@
 -- The step that looks at the pause word between two operations, and begins one.
-use Rattle.std.proofs.Common.{◌≡◌, ◌≢◌, ℕ, ◌+◌, ◌-◌, ◌/◌, ◌^◌, ◌<◌, ◌≤◌, Bool, true, false, arith, refl, sym, subst, ap, ◌∙◌, inl, inr, ◌⊎◌, List, length, replicate}
+use Rattle.std.proofs.Common.{◌≡◌, ◌≢◌, ℕ, ◌+◌, ◌-◌, ◌/◌, ◌<◌, ◌≤◌, Bool, true, false, arith, refl, sym, subst, ap, ◌∙◌, inl, inr, ◌⊎◌, List, length, replicate}
 use Rattle.std.specs.Prelude.{Some, None, ◌&&◌, nat_eq, nat_lt, slice_set, if◌then◌else◌}
 use Rattle.lxr_layout.specs.declared.TheConstants.{MOST_GRANULES, PAUSE_WORD}
 use Rattle.lxr_layout.specs.declared.Place.{Place}

@@ -301,8 +301,8 @@ swaps_step b s words i m st shows =
         value_is = ap (λ (q : Place). q.0) is.value;
       };
       tables = refl;
-      thread_states = ap (slice_set s.thread_states i) (sym (taken_shown n p (nat_eq p.0 0) goes.since (no_end_now n goes more)));
-      mutator = taken_kept l n p (nat_eq p.0 0) goes shows.mutator.regions more (ap takes_reference is.now) (omega (arith, low)) refl;
+      thread_states = ap (slice_set s.thread_states i) (sym (taken_shown n p (nat_eq p.0 0) shows.names goes.since (no_end_now n goes more)));
+      mutator = taken_kept l n p (nat_eq p.0 0) shows.names goes shows.mutator.regions more (ap takes_reference is.now) (omega (arith, low)) refl;
       history = refl;
       places = refl;
     }))

@@ -1,5 +1,5 @@
 -- A load or a swap takes the place that it found into a register: what the machine is then, and what it shows.
-use Rattle.std.proofs.Common.{◌≡◌, ℕ, ◌<◌, ◌≤◌, Bool, true, false, arith, refl, ap, ◌∙◌, length}
+use Rattle.std.proofs.Common.{◌≡◌, ℕ, ◌<◌, ◌≤◌, Bool, true, false, arith, refl, sym, ap, subst, ◌∙◌, length}
 use Rattle.std.specs.Prelude.{Option, None, nat_eq, slice_set, if◌then◌else◌}
 use Rattle.lxr_layout.specs.declared.TheConstants.{MOST_GRANULES}
 use Rattle.lxr_layout.specs.Spaces.{regions_of}
@@ -11,7 +11,7 @@ use Rattle.lxr_graph.specs.declared.Op.TheVariants as op
 use Rattle.lxr_mutator.specs.declared.phases.MutatorPhase.TheVariants as phase
 use Rattle.lxr_mutator.specs.Mutating.{Mutating, op_now}
 use Rattle.lxr_mutator.specs.Operating.{dest_of, found_reply}
-use Rattle.lxr_mutator.specs.Steps.{done_with, with_register}
+use Rattle.lxr_mutator.specs.Steps.{done_with, referring, with_register}
 use Rattle.lxr_core_invariant.specs.ThreadStates.{ThreadState, Names, is_end}
 use Rattle.lxr_core_invariant.specs.Events as epoch
 use Rattle.lxr_core_invariant.specs.Happening.{at_stage}
@@ -22,7 +22,7 @@ use Rattle.lxr_core_sim_mutator.proofs.KeepingLemmas.{GoesOn, to_done, to_phase,
 abbrev taken_as : Mutating → Place → Bool → Mutating
 taken_as m p none =
     if none then done_with (with_register m (dest_of (op_now m)) p) (found_reply (op_now m) None)
-    else record (with_register m (dest_of (op_now m)) p) { phase = phase.Referent p }
+    else referring (with_register m (dest_of (op_now m)) p) m.names p
 
 -- what it shows then
 abbrev shown_as : ThreadState → Op → ℕ → Place → Bool → ThreadState
@@ -35,16 +35,17 @@ pub same_found : (o : Op) (found : Option Name) → found_reply o found ≡ epoc
 same_found (op.Swap dest base index source) found = refl
 same_found o found = refl
 
--- a machine that took a place shows it
-pub taken_shown : (m : Mutating) (p : Place) (none : Bool) → m.since < m.every → is_end (op_now m) ≡ false → thread_state_of (taken_as m p none) ≡ shown_as (thread_state_of m) (op_now m) (dest_of (op_now m)) p none
-taken_shown m p true below goes =
+-- a machine that tells names and took a place shows it
+pub taken_shown : (m : Mutating) (p : Place) (none : Bool) → m.names ≡ true → m.since < m.every → is_end (op_now m) ≡ false → thread_state_of (taken_as m p none) ≡ shown_as (thread_state_of m) (op_now m) (dest_of (op_now m)) p none
+taken_shown m p true names below goes =
     let n = with_register m (dest_of (op_now m)) p in
     thread_state_done n (op_now m) (found_reply (op_now m) None) below goes ∙ ap (epoch.done_with (thread_state_of n) (op_now m)) (same_found (op_now m) None)
-taken_shown m p false below goes = refl
+taken_shown m p false names below goes = ap (λ (b : Bool). thread_state_of (referring (with_register m (dest_of (op_now m)) p) b p)) names
 
--- a machine that took a place is a mutator of the space
-pub taken_kept : (l : Limits) (m : Mutating) (p : Place) (none : Bool) → GoesOn m → m.regions ≡ regions_of l → length m.replies.items < length m.operations → TakesReference m → p.0 ≤ MOST_GRANULES
+-- a machine that tells names and took a place is a mutator of the space
+pub taken_kept : (l : Limits) (m : Mutating) (p : Place) (none : Bool) → m.names ≡ true → GoesOn m → m.regions ≡ regions_of l → length m.replies.items < length m.operations → TakesReference m → p.0 ≤ MOST_GRANULES
     → nat_eq p.0 0 ≡ none → IsMutatorOf l (taken_as m p none)
-taken_kept l m p true goes regions more takes low e = to_done l (with_register m (dest_of (op_now m)) p) (found_reply (op_now m) None) (with_place m (dest_of (op_now m)) p goes low) regions more
-taken_kept l m p false goes regions more takes low e =
-    to_phase l (with_register m (dest_of (op_now m)) p) (phase.Referent p) (with_place m (dest_of (op_now m)) p goes low) regions more (grind (arith, e), low) takes
+taken_kept l m p true names goes regions more takes low e = to_done l (with_register m (dest_of (op_now m)) p) (found_reply (op_now m) None) (with_place m (dest_of (op_now m)) p goes low) regions more
+taken_kept l m p false names goes regions more takes low e =
+    subst (λ (b : Bool). IsMutatorOf l (referring (with_register m (dest_of (op_now m)) p) b p)) (sym names)
+    (to_phase l (with_register m (dest_of (op_now m)) p) (phase.Referent p) (with_place m (dest_of (op_now m)) p goes low) regions more (grind (arith, e), low) takes)

@@ -1,10 +1,11 @@
 -- What a mutator shows of itself, and what its machine keeps of the operation in progress.
-use Rattle.std.specs.Prelude.{◌≡◌, ◌≢◌, ℕ, ◌-◌, ◌⊎◌, ⊤, IsTrue, Option, Some}
+use Rattle.std.specs.Prelude.{◌≡◌, ◌≢◌, ℕ, ◌-◌, ◌⊎◌, ⊤, Bool, true, false, IsTrue, Option, Some, List}
 use Rattle.lxr_layout.specs.Spaces.{regions_of}
 use Rattle.lxr_layout.specs.declared.Place.{Place}
 use Rattle.lxr_layout.specs.declared.Shape.{Shape}
 use Rattle.lxr_layout.specs.declared.limits.Limits.{Limits}
 use Rattle.lxr_layout.specs.Objects.{line_count, word_count}
+use Rattle.lxr_graph.specs.History.{Item, replies_of}
 use Rattle.lxr_graph.specs.declared.Op.{Op}
 use Rattle.lxr_graph.specs.declared.Op.TheVariants as op
 use Rattle.lxr_barrier.specs.declared.machines.LastStep.{LastStep}
@@ -20,6 +21,7 @@ use Rattle.lxr_mutator.specs.declared.phases.Stop.{Stop}
 use Rattle.lxr_mutator.specs.declared.phases.Stop.TheVariants as stop
 use Rattle.lxr_mutator.specs.Mutating.{Mutating, op_now, register}
 use Rattle.lxr_mutator.specs.Mutators.{IsMutator}
+use Rattle.lxr_mutator.specs.Naming.{looks_up, without_names}
 use Rattle.lxr_mutator.specs.Operating.{index_of}
 use Rattle.lxr_mutator.specs.Steps.{shape_now}
 use Rattle.lxr_core_invariant.specs.ThreadStates.{Intent, Reason, Stage, ThreadState, Plain, AtReference, AtValue, Clears, Stores, DrewRun, HasRun, NeedsBlock, DrewBlock, HasBlock, Makes, GivesUp, Rests, Works, Names, Through}
@@ -83,6 +85,26 @@ thread_state_of m = record {
   since = m.since;
   stage = stage_in m m.phase;
 }
+
+-- ---- who tells no names
+
+-- a mutator as if it told names: one that tells none has the replies of the history, which has them
+abbrev pub told_by : Bool → List Item → Mutating → Mutating
+told_by true h m = m
+told_by false h m = record m { names = true; replies = record m.replies { items = replies_of m.thread h } }
+
+-- a mutator as if it told names, by whether it tells them
+abbrev pub told_in : List Item → Mutating → Mutating
+told_in h m = told_by m.names h m
+
+-- who tells no names is as one that does, with the replies of the history, but for the names; and it looks none up
+pub record IsUntold (h : List Item) (m : Mutating) : Type 0 where
+  pub alike : without_names (told_in h m) ≡ m
+  pub looks_none_up : looks_up m.phase ≡ false
+
+-- so it is of one that tells none
+abbrev pub HasTold : List Item → Mutating → Type 0
+HasTold h m = m.names ≡ false → IsUntold h m
 
 -- it is to work on a field of what a register holds, which is not nil
 pub record WorksAtBase (m : Mutating) (base : Place) : Type 0 where

@@ -45,13 +45,14 @@ places_in p b s m = s.at
 abbrev pub places_after : Beginning → EpochState → Mutating → Name → ℕ
 places_after b s m = places_in m.phase b s m
 
--- The words and mutator i are those of an epoch state of the epoch.
+-- The words and mutator i, which tells names, are those of an epoch state of the epoch.
 pub record ShowsAs (b : Beginning) (s : EpochState) (words : List ℕ) (i : ℕ) (m : Mutating) : Type 0 where
   pub epoch : IsEpoch b s
   pub size : length words ≡ region_begin (limits_of b) all_regions
   pub tables : s.tables ≡ tables_in (limits_of b) words
   pub thread_state : slice_get s.thread_states i ≡ Some (thread_state_of m)
   pub mutator : IsMutatorOf (limits_of b) m
+  pub names : m.names ≡ true
 
 -- A step is an event: it may happen, and leads to the words and to what the mutator shows then.
 pub record StepIsEvent (b : Beginning) (s : EpochState) (words : List ℕ) (i : ℕ) (m : Mutating) : Type 0 where
@@ -66,7 +67,7 @@ pub record StepIsEvent (b : Beginning) (s : EpochState) (words : List ℕ) (i : 
   pub history : (happen b s i (thread_state_of m) event).history ≡ history_after b s m (stepped mutator_machine words m).1
   pub places : (happen b s i (thread_state_of m) event).at ≡ places_after b s m
 
--- so it is of each step
+-- so it is of each step of a mutator that tells names
 abbrev pub StepsAreEvents : Type 0
 StepsAreEvents = (b : Beginning) (s : EpochState) (words : List ℕ) (i : ℕ) (m : Mutating)
     → ShowsAs b s words i m → IsSome (action m) → StepIsEvent b s words i m

@@ -187,23 +187,26 @@ pub record FixesAll (after : Space) (m : Moment) (st : EvacuationStage) : Type 0
 pub record HoldNow (st : EvacuationStage) (places : List Place) (held : List (Option Name)) (count : ℕ) : Type 0 where
   pub first : (k : ℕ) (p : Place) (r : Option Name) → k < count → slice_get places k ≡ Some p → slice_get held k ≡ Some r → p.0 ≡ place_word st.now r
 
--- the places that registers hold, now or at the last pause; the names that they are to hold; and the space with other places in them
+-- the places that registers hold, now or at the last pause
 abbrev pub held_places : Registers → Space → List Place
 held_places Now s = s.registers.items
 held_places AtLastPause s = s.deferred.items
 
+-- the names that they are to hold
 abbrev pub held_names : Registers → Moment → List (Option Name)
 held_names Now m = m.state.registers
 held_names AtLastPause m = m.last.registers
 
+-- the space with other places in them
 abbrev pub with_places : Registers → Space → List Place → Space
 with_places Now s places = record s { registers = record s.registers { items = places } }
 with_places AtLastPause s places = record s { deferred = record s.deferred { items = places } }
 
--- the registers before one hold where what they hold stands now; then it does too
+-- there is a register of this number while objects are moved
 abbrev pub MayFixRegister : Space → Registers → ℕ → Type 0
 MayFixRegister s registers register = (m : Moment) × (st : EvacuationStage) × IsEvacuating s m st × (register < length (held_places registers s))
 
+-- where the registers before it hold where what they are to hold stands now, it does too
 abbrev pub FixesRegister : Space → Space → Registers → ℕ → Type 0
 FixesRegister before after registers register =
     (m : Moment) (st : EvacuationStage) → IsEvacuating before m st → HoldNow st (held_places registers before) (held_names registers m) register

@@ -54,7 +54,7 @@ pub replied_small : (x : Heap) (h : List LargeItem) (is : IsHeapOf x h) (space :
     → IsReplied x (behind x space x.bodies made) h (large_op.Small o) (large_reply.Small r)
 replied_small x h is space o r made formed first count done finds =
     let here = done is.at is.rests in
-    let st : IsStep (terms_of x) h (large_moment h) o r = is_step_of (terms_of x) h (large_moment h) o r is.state here.reply in
+    let st : IsStep (terms_of x) h o r = is_step_of (terms_of x) h (large_moment h) o r is.state here.reply in
     record {
       holds = subst (λ k. IsHeapOf (behind x space x.bodies k) (Called (large_op.Small o) (large_reply.Small r) ∷ h)) (sym count) (done_small x h is space o r formed first here);
       refused = (λ f. absurd (st.refused f), λ p. absurd (finds.0 (place_room x o p)));

@@ -69,7 +69,7 @@ module _ (x : Heap) (h : List LargeItem) (is : IsHeapOf x h) where
       let keeps = keeps_beside x.space space done.keeps in
       let terms = same_terms x space x.bodies (made_with x.made r) keeps refl in
       let st = is_step_of (terms_of x) h m o r is.state done.reply in
-      let now = stepped x.made x.bodies m (large_state h) o r rows many first done.reply st.after (stands x h is) in
+      let now = stepped x.made x.bodies m (large_state h) o r rows many first done.reply (stands x h is) in
       let after = subst (StandsFor (made_with x.made r) x.bodies (after_call m 1 o r)) (sym st.state) now in
       record {
         legal = subst (λ t. IsLegalLarge t (Called (large_op.Small o) (large_reply.Small r) ∷ h)) (sym terms) (is.legal, record { operation = formed; reply = st.replies });
@@ -105,7 +105,7 @@ module _ (x : Heap) (h : List LargeItem) (is : IsHeapOf x h) where
       let held : Held = record x.bodies { bodies = with_placed x.bodies.bodies (fresh n first blocks) } in
       let terms = same_terms x space held (x.made + 1) keeps refl in
       let e : n ≡ next_name s.small.graph 1 = named ∙ sym is.next in
-      let now = stepped x.made x.bodies m s (op.New dest handle) (reply.New n) rows many tt done.reply refl (stands x h is) in
+      let now = stepped x.made x.bodies m s (op.New dest handle) (reply.New n) rows many tt done.reply (stands x h is) in
       let k : Moment = after_call m 1 (op.New dest handle) (reply.New n) in
       let more = held_more m k x.bodies.bodies s.large n first blocks (fresh_body blocks) refl refl (lower_and_other x.made n s.large named is.names) refl is.bodies in
       record {

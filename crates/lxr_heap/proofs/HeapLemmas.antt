@@ -13,6 +13,7 @@ use Rattle.lxr_graph.specs.declared.Reply.TheVariants as reply
 use Rattle.lxr_graph.proofs.NameSets.{same_names}
 use Rattle.lxr_image.specs.declared.space.Space.{Space}
 use Rattle.lxr_model.specs.Moments.{Moment, after_call, made_after}
+use Rattle.lxr_model_counting.proofs.ReplyLemmas.{state_after_step}
 use Rattle.lxr_model_counting.proofs.StoreLemmas.{shape_through, step_keeps}
 use Rattle.lxr_graph.specs.State.{world}
 use Rattle.lxr_full.specs.Room.{HasWorld}
@@ -116,8 +117,8 @@ names_with made _ ls all = all
 
 -- a step of the object graph
 pub stepped : (made : ℕ) (held : Held) (m : Moment) (s : LargeState) (o : Op) (r : Reply) → 1 < length m.state.graph → length m.state.registers ≡ 16 → IsOfFirstVersion o → r ≡ (step m.state 1 o).1
-    → state_after m.state 1 o r ≡ (step m.state 1 o).0 → StandsFor made held m s → StandsFor (made_with made r) held (after_call m 1 o r) (record s { small = (step s.small 1 o).0 })
-stepped made held m s o r rows many first is after old =
+    → StandsFor made held m s → StandsFor (made_with made r) held (after_call m 1 o r) (record s { small = (step s.small 1 o).0 })
+stepped made held m s o r rows many first is old =
     let there : 1 < length s.small.graph = subst (λ (z : State). 1 < length z.graph) old.state rows in
     let all : length s.small.registers ≡ 16 = subst (λ (z : State). length z.registers ≡ 16) old.state many in
     let counts = step_counts s.small o there first in
@@ -125,7 +126,7 @@ stepped made held m s o r rows many first is after old =
     let keeps = step_keeps s.small 1 o there (omega (arith, all)) in
     let now = keeps.shapes (record { thread = 0; serial = 0 }) old.world.0 old.world.1 in
     record {
-      state = after ∙ ap (λ (z : State). (step z 1 o).0) old.state;
+      state = ap (state_after m.state 1 o) is ∙ state_after_step m.state 1 o ∙ ap (λ (z : State). (step z 1 o).0) old.state;
       world = (now.0, now.1, shape_through world old.world.0 now.0 now.2 old.world.2);
       next = next_after s.small (step s.small 1 o).0 made r (counts.length ∙ ap (made_with (length (row_of s.small.graph 1))) (sym told)) old.next;
       names = names_with made r s.large old.names;
@@ -139,30 +140,18 @@ stepped made held m s o r rows many first is after old =
 
 -- ---- what a reply of a step says of states and histories
 
-pub record IsStep (terms : LargeTerms) (h : List LargeItem) (m : Moment) (o : Op) (r : Reply) : Type 0 where
+pub record IsStep (terms : LargeTerms) (h : List LargeItem) (o : Op) (r : Reply) : Type 0 where
   pub replies : LargeReplies terms h (large_op.Small o) (large_reply.Small r)
   pub state : large_after (large_state h) (large_op.Small o) (large_reply.Small r) ≡ record (large_state h) { small = (step (large_state h).small 1 o).0 }
-  pub after : state_after m.state 1 o r ≡ (step m.state 1 o).0
   pub stale : IsFresh (Called (large_op.Small o) (large_reply.Small r) ∷ h) → ⊥
   pub refused : IsRefusal (large_op.Small o) (large_reply.Small r) → ⊥
 
-is_step : (terms : LargeTerms) (h : List LargeItem) (m : Moment) (o : Op) → IsStep terms h m o (step (large_state h).small 1 o).1
-is_step terms h m (op.New dest shape) = record { replies = refl; state = refl; after = refl; stale = λ no. no; refused = λ no. no }
-is_step terms h m (op.Load dest base index) = record { replies = refl; state = refl; after = refl; stale = λ no. no; refused = λ no. no }
-is_step terms h m (op.Store base index source) = record { replies = refl; state = refl; after = refl; stale = λ no. no; refused = λ no. no }
-is_step terms h m (op.Put base index value) = record { replies = refl; state = refl; after = refl; stale = λ no. no; refused = λ no. no }
-is_step terms h m (op.Get base index) = record { replies = refl; state = refl; after = refl; stale = λ no. no; refused = λ no. no }
-is_step terms h m (op.Swap dest base index source) = record { replies = refl; state = refl; after = refl; stale = λ no. no; refused = λ no. no }
-is_step terms h m (op.Add base index value) = record { replies = refl; state = refl; after = refl; stale = λ no. no; refused = λ no. no }
-is_step terms h m (op.Move dest source) = record { replies = refl; state = refl; after = refl; stale = λ no. no; refused = λ no. no }
-is_step terms h m (op.Nil dest) = record { replies = refl; state = refl; after = refl; stale = λ no. no; refused = λ no. no }
-is_step terms h m (op.Same left right) = record { replies = refl; state = refl; after = refl; stale = λ no. no; refused = λ no. no }
-is_step terms h m op.Pause = record { replies = refl; state = refl; after = refl; stale = λ no. no; refused = λ no. no }
-is_step terms h m op.Collect = record { replies = refl; state = refl; after = refl; stale = λ no. no; refused = λ no. no }
-is_step terms h m op.End = record { replies = refl; state = refl; after = refl; stale = λ no. no; refused = λ no. no }
+is_step : (terms : LargeTerms) (h : List LargeItem) (o : Op) → IsStep terms h o (step (large_state h).small 1 o).1
+is_step terms h (op.New dest shape) = record { replies = refl; state = refl; stale = λ no. no; refused = λ no. no }
+is_step terms h o = record { replies = refl; state = refl; stale = λ no. no; refused = λ no. no }
 
-pub is_step_of : (terms : LargeTerms) (h : List LargeItem) (m : Moment) (o : Op) (r : Reply) → m.state ≡ (large_state h).small → r ≡ (step m.state 1 o).1 → IsStep terms h m o r
-is_step_of terms h m o r same is = subst (IsStep terms h m o) (sym (is ∙ ap (λ (z : State). (step z 1 o).1) same)) (is_step terms h m o)
+pub is_step_of : (terms : LargeTerms) (h : List LargeItem) (m : Moment) (o : Op) (r : Reply) → m.state ≡ (large_state h).small → r ≡ (step m.state 1 o).1 → IsStep terms h o r
+is_step_of terms h m o r same is = subst (IsStep terms h o) (sym (is ∙ ap (λ (z : State). (step z 1 o).1) same)) (is_step terms h o)
 
 -- ---- the heap behind a call
 

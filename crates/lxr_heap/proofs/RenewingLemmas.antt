@@ -2,17 +2,13 @@
 use Rattle.std.proofs.Common.{◌≡◌, ℕ, ◌+◌, ◌^◌, ◌≤◌, refl, sym, ap, subst, ◌∙◌, inl, inr, arith, Bool, true, false, cond, List, [], ◌∷◌, length, map, filter, Some}
 use Rattle.std.specs.Prelude.{◌↔◌, ◌||◌, IsTrue}
 use Rattle.std.specs.List.{AllByRecursion}
-use Rattle.std.specs.List.Sorted.{IsStrictlySortedBy}
 use Rattle.std.proofs.lemmas.Bool.{or_cases}
-use Rattle.std.proofs.lemmas.Bool.Decides.{nat_tests}
 use Rattle.std.proofs.lemmas.List.{length-map}
-use Rattle.std.specs.declared.cmp.Ordering.TheVariants.{Less}
 use Rattle.lxr_layout.specs.declared.Name.{Name}
 use Rattle.lxr_layout.specs.declared.TheConstants.{DECREMENT_COUNT}
 use Rattle.lxr_layout.specs.declared.limits.Limits.{Limits}
-use Rattle.lxr_graph.specs.Names.{AreInOrder, has, name_order, same_name}
+use Rattle.lxr_graph.specs.Names.{AreInOrder, has, same_name}
 use Rattle.lxr_graph.specs.State.{State, object_at, world_name}
-use Rattle.lxr_graph.proofs.NameSets.{same_names}
 use Rattle.lxr_image.specs.declared.space.Space.{Space}
 use Rattle.lxr_image.specs.Opened.{no_tally}
 use Rattle.lxr_image.specs.Tables.{Tables}
@@ -32,7 +28,7 @@ use Rattle.lxr_large_bodies.specs.Bodies.{AreAmong, Body, renamed}
 use Rattle.lxr_large_bodies.specs.Kept.{HoldsBodies, Kept, kept_of}
 use Rattle.lxr_renew.specs.Renewing.{MayRenew, Renews}
 use Rattle.lxr_renew.proofs.FewLemmas.{unreclaimed_few}
-use Rattle.lxr_renew.proofs.NameLemmas.{has_map, map_has, renewed_one, same_renewed}
+use Rattle.lxr_renew.proofs.NameLemmas.{begins_with_world, has_map, map_has, renewed_one, same_renewed}
 use Rattle.lxr_renew.proofs.StateLemmas.{IsLeft, reachable_still}
 use Rattle.lxr_large_model.proofs.SerialLemmas.{serial_tells}
 use Rattle.lxr_heap.specs.declared.heap.Heap.{Heap}
@@ -45,28 +41,6 @@ use Rattle.lxr_heap.proofs.HeapLemmas.{one_thread}
 use Rattle.lxr_heap.proofs.MomentLemmas.{two_rows}
 use Rattle.lxr_heap.proofs.SameLemmas.{rests_told}
 use Rattle.lxr_heap.proofs.TellingLemmas.{same_state, settled}
-
--- ---- what is left behind a pause that collected
-
--- nothing comes before the world
-world_first : (n : Name) → name_order n world_name ≡ Less → ⊥
-world_first n h = grind (arith, nat_tests)
-
-after_first : (m : Name) (ms : List Name) → AllByRecursion (λ q. name_order m q ≡ Less) ms → IsTrue (has ms world_name) → ⊥
-after_first m [] all h = absurd (cc)
-after_first m (q ∷ qs) all h = elim (or_cases (same_name world_name q) (has qs world_name) h) [
-  | inl e ↦ world_first m (subst (λ z. name_order m z ≡ Less) (sym (same_names world_name q e)) all.0)
-  | inr k ↦ after_first m qs all.1 k
-]
-
--- names in order that have the world begin with it
-begins_with_world : (us : List Name) → AreInOrder us → IsTrue (has us world_name) → (ns : List Name) × (us ≡ world_name ∷ ns)
-unfolding IsStrictlySortedBy
-begins_with_world [] order h = absurd (cc)
-begins_with_world (m ∷ ms) order h = elim (or_cases (same_name world_name m) (has ms world_name) h) [
-  | inl e ↦ (ms, ap (λ z. z ∷ ms) (sym (same_names world_name m e)))
-  | inr k ↦ absurd (after_first m ms order.0 k)
-]
 
 -- ---- bodies
 

@@ -9,7 +9,7 @@ use Rattle.lxr_graph.specs.declared.Reply.{Reply}
 use Rattle.lxr_graph.specs.declared.Reply.TheVariants as reply
 use Rattle.lxr_graph.specs.Names.{same_name, has}
 use Rattle.lxr_graph.specs.State.{State, refs_of, object_at, register_at}
-use Rattle.lxr_graph.specs.Step.{IsWellFormed, state_after, step, store_to, stored, swap_in, swapped}
+use Rattle.lxr_graph.specs.Step.{IsWellFormed, step, store_to, stored, swap_in, swapped}
 use Rattle.lxr_model.specs.Moments.{Field, Trace, Moment, with_field, made_after, written_after, after_call}
 use Rattle.lxr_model.specs.Moments as model
 use Rattle.lxr_model.proofs.ObjectLemmas.{keeps_objects}
@@ -17,43 +17,11 @@ use Rattle.lxr_model_counting.specs.Following.{FollowsPause, IsStepReply}
 use Rattle.lxr_model_counting.specs.Garbage.{FollowsRunning}
 use Rattle.lxr_model_counting.proofs.FollowingLemmas.{call_follows}
 use Rattle.lxr_model_counting.proofs.GarbageLemmas.{call_keeps_garbage}
+use Rattle.lxr_model_counting.proofs.ReplyLemmas.{state_after_step, step_reply}
 use Rattle.lxr_judge_report.specs.Fields.{made_with, fields_with, joined_field}
 use Rattle.lxr_judge_report.specs.LastPauses.{Past, IsLastOf}
 use Rattle.lxr_judge_report.specs.Positions.{Present, IsAt, MovesByCall, target, unreclaimed_field}
 use Rattle.lxr_judge_report.proofs.SetLemmas.{joined_has, inserted_has, inserted_length, joined_reversed}
-
--- ---- the step
-
--- the reply of a step is one of a step, and leads to the step's state
-reply_of_step : (s : State) (t : ℕ) (o : Op) → t < length s.graph → 1 ≤ t → IsStepReply s t o (step s t o).1
-reply_of_step s t (op.New dest shape) row thread = (refl, row, thread)
-reply_of_step s t (op.Load dest base index) row thread = (refl, row, thread)
-reply_of_step s t (op.Store base index source) row thread = (refl, row, thread)
-reply_of_step s t (op.Put base index value) row thread = (refl, row, thread)
-reply_of_step s t (op.Get base index) row thread = (refl, row, thread)
-reply_of_step s t (op.Swap dest base index source) row thread = (refl, row, thread)
-reply_of_step s t (op.Add base index value) row thread = (refl, row, thread)
-reply_of_step s t (op.Move dest source) row thread = (refl, row, thread)
-reply_of_step s t (op.Nil dest) row thread = (refl, row, thread)
-reply_of_step s t (op.Same left right) row thread = (refl, row, thread)
-reply_of_step s t op.Pause row thread = (refl, row, thread)
-reply_of_step s t op.Collect row thread = (refl, row, thread)
-reply_of_step s t op.End row thread = (refl, row, thread)
-
-state_of_step : (s : State) (t : ℕ) (o : Op) → state_after s t o (step s t o).1 ≡ (step s t o).0
-state_of_step s t (op.New dest shape) = refl
-state_of_step s t (op.Load dest base index) = refl
-state_of_step s t (op.Store base index source) = refl
-state_of_step s t (op.Put base index value) = refl
-state_of_step s t (op.Get base index) = refl
-state_of_step s t (op.Swap dest base index source) = refl
-state_of_step s t (op.Add base index value) = refl
-state_of_step s t (op.Move dest source) = refl
-state_of_step s t (op.Nil dest) = refl
-state_of_step s t (op.Same left right) = refl
-state_of_step s t op.Pause = refl
-state_of_step s t op.Collect = refl
-state_of_step s t op.End = refl
 
 -- ---- names made
 
@@ -156,7 +124,7 @@ called_moves old new t o r called m at =
     let row : t < length m.state.graph = subst (λ (s : State). t < length s.graph) at.state called.row in
     let stepped : step m.state t o ≡ (new.state, r) = subst (λ (s : State). step s t o ≡ (new.state, r)) at.state called.step in
     let replied : r ≡ answer = sym (ap (λ (p : State × Reply). p.1) stepped) in
-    let is : IsStepReply m.state t o answer = reply_of_step m.state t o row called.thread in
+    let is : IsStepReply m.state t o answer = step_reply m.state t o row called.thread in
     let made : new.made ≡ made_with old.made answer = called.made ∙ ap (made_with old.made) replied in
     let young : (n : Name) → answer ≡ reply.New n → has m.made n ≡ false =
     λ n e. false_from_ne_true (has m.made n) (λ h. ((keeps_objects m.state t o row n).1 e).0 (at.lives.young n h).1) in
@@ -164,7 +132,7 @@ called_moves old new t o r called m at =
       lives = call_follows m t o answer at.lives called.formed is;
       traces = traces_called m t o answer m.trace at.lives at.traces is;
       stuck = at.stuck;
-      state = sym (ap (λ (p : State × Reply). p.0) stepped) ∙ sym (state_of_step m.state t o);
+      state = sym (ap (λ (p : State × Reply). p.0) stepped) ∙ sym (state_after_step m.state t o);
       last = last_called old.last new.last m t o answer called.last at.last;
       made = λ n. ap (λ ns. has ns n) made ∙ made_called old.made m.made answer at.made n;
       made_once = ap (λ (ns : List Name). length ns) made ∙ made_counted old.made m.made answer at.made young at.made_once;

@@ -27,7 +27,7 @@ use Rattle.lxr_model_decide.proofs.SetLemmas.{dead_right, promoted_right}
 use Rattle.lxr_judge_sets.specs.ByName.{value_at}
 use Rattle.lxr_judge_report.specs.LastPauses.{running_of}
 use Rattle.lxr_judge_report.specs.Positions.{Present, IsAt}
-use Rattle.lxr_judge_report.specs.Stages.{first_at, old_at, promoted_at, kept_at, newly_stuck_at, stuck_at, second_at, left_at, swept_at, third_at, dead_at, AreGains, AreLosses, raised_now, count_before_now, becomes_stuck, drained_of, swept_of, swept_now, counted}
+use Rattle.lxr_judge_report.specs.Stages.{first_at, old_at, promoted_at, kept_at, newly_stuck_at, stuck_at, second_at, left_at, swept_at, third_at, dead_at, AreGains, AreKept, AreLosses, raised_now, count_before_now, becomes_stuck, drained_of, swept_of, swept_now, counted}
 use Rattle.lxr_judge_report.proofs.SetLemmas.{alone, in_order-filter, filter_same, filter_has, map_same, references_filter}
 
 -- ---- sets
@@ -110,17 +110,23 @@ module _ (p : Present) (m : Moment) (at : IsAt p m) where
 
   -- ---- gains
 
-  pub gains_are : (old promoted kept newly_stuck stuck : List Name) → old ≡ without p.last.unreclaimed p.last.dead → IsSetOf promoted (Promoted p.state old p.made)
-      → (AreInOrder old → kept ≡ union promoted old) → newly_stuck ≡ filter (becomes_stuck p promoted) kept
-      → (AreInOrder p.last.stuck → stuck ≡ union newly_stuck p.last.stuck) → AreGains promoted kept newly_stuck stuck m
-  gains_are old promoted kept newly_stuck stuck old_was promoted_was kept_was newly_was stuck_was =
+  pub kept_are : (old promoted kept : List Name) → old ≡ without p.last.unreclaimed p.last.dead → IsSetOf promoted (Promoted p.state old p.made)
+      → (AreInOrder old → kept ≡ union promoted old) → AreKept promoted kept m
+  kept_are old promoted kept old_was promoted_was kept_was =
       let old_at_m : old ≡ old_at m = old_was ∙ old_is in
       let promoted_at_m : promoted ≡ promoted_at m = promoted_is promoted (subst (λ ns. IsSetOf promoted (Promoted p.state ns p.made)) old_was promoted_was) in
-      let kept_at_m : kept ≡ kept_at m = kept_was (subst AreInOrder (sym old_at_m) old_in_order) ∙ (λ i. union (promoted_at_m i) (old_at_m i)) in
-      let newly_at_m : newly_stuck ≡ newly_stuck_at m = newly_was ∙ (λ i. filter (becomes_stuck p (promoted_at_m i)) (kept_at_m i)) ∙ newly_stuck_is in
       record {
         promoted_are = promoted_at_m;
-        kept_are = kept_at_m;
+        kept_are = kept_was (subst AreInOrder (sym old_at_m) old_in_order) ∙ (λ i. union (promoted_at_m i) (old_at_m i));
+      }
+
+  pub gains_are : (promoted kept newly_stuck stuck : List Name) → AreKept promoted kept m → newly_stuck ≡ filter (becomes_stuck p promoted) kept
+      → (AreInOrder p.last.stuck → stuck ≡ union newly_stuck p.last.stuck) → AreGains promoted kept newly_stuck stuck m
+  gains_are promoted kept newly_stuck stuck parts newly_was stuck_was =
+      let newly_at_m : newly_stuck ≡ newly_stuck_at m = newly_was ∙ (λ i. filter (becomes_stuck p (parts.promoted_are i)) (parts.kept_are i)) ∙ newly_stuck_is in
+      record {
+        promoted_are = parts.promoted_are;
+        kept_are = parts.kept_are;
         newly_stuck_are = newly_at_m;
         stuck_are = stuck_was (subst AreInOrder (sym at.last.stuck) at.stuck) ∙ (λ i. union (newly_at_m i) (at.last.stuck i));
       }
@@ -150,22 +156,21 @@ module _ (p : Present) (m : Moment) (at : IsAt p m) where
       ap (λ s. without left (reachable_names s)) at.state
       ∙ sym (alone (without left (reachable_names m.state)) (in_order-without left (reachable_names m.state) order))
 
-  pub losses_are : (k : Kind) (kept stuck second left swept remaining third later dead : List Name) → kept ≡ kept_at m → stuck ≡ stuck_at m
-      → second ≡ drained_of p.state (is_draining k) kept stuck → left ≡ without kept second → swept ≡ swept_now p left k → remaining ≡ without left swept
-      → third ≡ drained_of p.state (is_draining k) remaining stuck → (AreInOrder third → later ≡ union second third)
-      → (AreInOrder later → dead ≡ union p.last.dead later) → AreLosses dead swept m k
-  losses_are k kept stuck second left swept remaining third later dead kept_was stuck_was second_was left_was swept_was remaining_was third_was later_was dead_was =
+  pub losses_are : (k : Kind) (kept stuck second swept third dead : List Name) → kept ≡ kept_at m → stuck ≡ stuck_at m
+      → second ≡ drained_of p.state (is_draining k) kept stuck → swept ≡ swept_now p (without kept second) k
+      → third ≡ drained_of p.state (is_draining k) (without (without kept second) swept) stuck
+      → (AreInOrder third → dead ≡ union p.last.dead (union second third)) → AreLosses dead swept m k
+  losses_are k kept stuck second swept third dead kept_was stuck_was second_was swept_was third_was dead_was =
+      let left = without kept second in
       let second_at_m : second ≡ second_at m k = second_was ∙ drained_is (is_draining k) kept stuck ∙ (λ i. drained_names m (kept_was i) (stuck_was i) (is_draining k)) in
-      let left_at_m : left ≡ left_at m k = left_was ∙ (λ i. without (kept_was i) (second_at_m i)) in
+      let left_at_m : left ≡ left_at m k = λ i. without (kept_was i) (second_at_m i) in
       let left_order : AreInOrder left = subst AreInOrder (sym left_at_m) (in_order-without (kept_at m) (second_at m k) kept_in_order) in
       let swept_at_m : swept ≡ swept_at m k = swept_was ∙ swept_is k left left_order ∙ (λ i. swept_names m (left_at_m i) k) in
-      let remaining_at_m : remaining ≡ without (left_at m k) (swept_at m k) = remaining_was ∙ (λ i. without (left_at_m i) (swept_at_m i)) in
-      let third_at_m : third ≡ third_at m k = third_was ∙ drained_is (is_draining k) remaining stuck ∙ (λ i. drained_names m (remaining_at_m i) (stuck_was i) (is_draining k)) in
+      let third_at_m : third ≡ third_at m k =
+      third_was ∙ drained_is (is_draining k) (without left swept) stuck ∙ (λ i. drained_names m (without (left_at_m i) (swept_at_m i)) (stuck_was i) (is_draining k)) in
       let third_order : AreInOrder third = subst AreInOrder (sym third_at_m) (drained_in_order (is_draining k) (without (left_at m k) (swept_at m k)) (stuck_at m)) in
-      let later_at_m : later ≡ union (second_at m k) (third_at m k) = later_was third_order ∙ (λ i. union (second_at_m i) (third_at_m i)) in
-      let later_order : AreInOrder later = subst AreInOrder (sym (later_was third_order)) (in_order-union second third third_order) in
       record {
-        dead_are = dead_was later_order ∙ (λ i. union (first_is i) (later_at_m i));
+        dead_are = dead_was third_order ∙ (λ i. union (first_is i) (union (second_at_m i) (third_at_m i)));
         swept_are = swept_at_m;
       }
 
@@ -253,13 +258,12 @@ module _ (p : Present) (m : Moment) (at : IsAt p m) where
       (λ i. map (counted (stuck_was i) count) (us_was i))
       ∙ map_same (counted (stuck_at m) count) (count_entry m.state left (stuck_at m)) left (λ o h. counted_is k count o all h)
 
-  pub counts_are : (k : Kind) (promoted stuck dead swept all undead us : List Name) (count : Name → ℕ) → promoted ≡ promoted_at m → stuck ≡ stuck_at m → AreLosses dead swept m k
-      → (AreInOrder p.last.unreclaimed → all ≡ union promoted p.last.unreclaimed) → undead ≡ without all dead → us ≡ without undead swept
+  pub counts_are : (k : Kind) (promoted stuck dead swept us : List Name) (count : Name → ℕ) → promoted ≡ promoted_at m → stuck ≡ stuck_at m → AreLosses dead swept m k
+      → (AreInOrder p.last.unreclaimed → us ≡ without (without (union promoted p.last.unreclaimed) dead) swept)
       → ((q : Name) → count q ≡ references p.state us q)
       → (if is_draining k then map (counted stuck count) us else []) ≡ (report_at m k).counts
-  counts_are k promoted stuck dead swept all undead us count promoted_was stuck_was losses all_was undead_was us_was counts =
-      let all_at_m : all ≡ union (promoted_at m) m.unreclaimed =
-      all_was (subst AreInOrder (sym at.last.unreclaimed) at.lives.unreclaimed) ∙ (λ i. union (promoted_was i) (at.last.unreclaimed i)) in
-      let undead_at_m : undead ≡ without (union (promoted_at m) m.unreclaimed) (dead_at m k) = undead_was ∙ (λ i. without (all_at_m i) (losses.dead_are i)) in
-      let us_at_m : us ≡ unreclaimed_after m (report_at m k) = us_was ∙ (λ i. without (undead_at_m i) (losses.swept_are i)) in
+  counts_are k promoted stuck dead swept us count promoted_was stuck_was losses us_was counts =
+      let us_at_m : us ≡ unreclaimed_after m (report_at m k) =
+      us_was (subst AreInOrder (sym at.last.unreclaimed) at.lives.unreclaimed)
+      ∙ (λ i. without (without (union (promoted_was i) (at.last.unreclaimed i)) (losses.dead_are i)) (losses.swept_are i)) in
       counts_by k (is_draining k) stuck us count refl stuck_was us_at_m counts

@@ -63,6 +63,11 @@ pub record AreGains (promoted kept newly_stuck stuck : List Name) (m : Moment) :
   pub newly_stuck_are : newly_stuck ≡ newly_stuck_at m
   pub stuck_are : stuck ≡ stuck_at m
 
+-- these names are what a pause at moment m promotes, and what it keeps with that
+pub record AreKept (promoted kept : List Name) (m : Moment) : Type 0 where
+  pub promoted_are : promoted ≡ promoted_at m
+  pub kept_are : kept ≡ kept_at m
+
 -- these names are what a pause of this kind at moment m reclaims, dead or swept
 pub record AreLosses (dead swept : List Name) (m : Moment) (k : Kind) : Type 0 where
   pub dead_are : dead ≡ dead_at m k
@@ -71,6 +76,10 @@ pub record AreLosses (dead swept : List Name) (m : Moment) (k : Kind) : Type 0 w
 -- so it is at whatever moment a position is
 abbrev pub GainsAt : Present → List Name → List Name → List Name → List Name → Type 0
 GainsAt p promoted kept newly_stuck stuck = (m : Moment) → IsAt p m → AreGains promoted kept newly_stuck stuck m
+
+-- what is promoted and kept at whatever moment a position is
+abbrev pub KeptAt : Present → List Name → List Name → Type 0
+KeptAt p promoted kept = (m : Moment) → IsAt p m → AreKept promoted kept m
 
 -- so it is where the names kept and stuck are those of the moment
 abbrev pub LossesAfter : Present → List Name → List Name → Kind → List Name → List Name → Type 0

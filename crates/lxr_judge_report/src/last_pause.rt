@@ -1,10 +1,12 @@
 //! What is kept of the last pause: its names, and what the next report asks of the state there.
 ghost use Rattle.std.specs.Prelude.{◌≡◌, IfOk, option_copied};
+ghost use Rattle.lxr_model_decide.specs.Sets.{dead_names};
 ghost use Rattle.lxr_judge_sets.specs.ByName.{value_at};
+ghost use Rattle.lxr_judge_sets.specs.Dying.{AreCountsLeft};
 ghost use Rattle.lxr_judge_report.specs.LastPauses.{TellsState};
 
 use lxr_graph::Graph;
-use lxr_judge_sets::{NameSet, Tally, dead};
+use lxr_judge_sets::{Deaths, NameSet, Tally, dead};
 use lxr_layout::Name;
 use std::alloc::{AllocError, Global};
 use std::marker::Model;
@@ -24,6 +26,29 @@ impl Model for RunningTrace {
     ghost Value = { Running };
 
     ghost view = { λ t. record { began = t.began; swept = t.swept } };
+}
+
+/// What a state tells of unreclaimed names: what registers hold there, and the dead with the references that are left.
+#[derive(Drop)]
+struct Told {
+    registers: Vec<Option<Name>>,
+    deaths: Deaths,
+}
+
+/// What the graph's state tells of these unreclaimed names, where these are stuck.
+fn told_of(
+    alloc: Global,
+    graph: &Graph,
+    unreclaimed: &NameSet,
+    stuck: &NameSet,
+) -> Result<Told, AllocError>
+    ensures registers { IfOk result (λ told. told.registers.items ≡ graph.now.registers) }
+    ensures dead { IfOk result (λ told. told.deaths.names ≡ dead_names graph.now unreclaimed.now stuck.now) }
+    ensures counts { IfOk result (λ told. AreCountsLeft graph.now unreclaimed.now stuck.now told.deaths.names told.deaths.counts) }
+{
+    let deaths = dead(alloc, graph, unreclaimed, stuck)?;
+    let registers = Vec::from_slice(alloc, graph.registers())?;
+    Ok(Told { registers, deaths })
 }
 
 /// The last pause. What was dead there and how often the others were referred to is computed at the pause itself.
@@ -105,17 +130,15 @@ impl LastPause {
         ensures trace { IfOk result (λ past. past.trace ≡ trace) }
         ensures state { IfOk result (λ past. TellsState past graph.now) }
     {
-        let deaths = dead(alloc, graph, &unreclaimed, &stuck)?;
-        let mut registers = Vec::new(alloc);
-        registers.extend_from_slice(graph.registers())?;
+        let told = told_of(alloc, graph, &unreclaimed, &stuck)?;
         Ok(LastPause {
             number,
             unreclaimed,
             stuck,
             trace,
-            registers,
-            dead: deaths.names,
-            references: deaths.counts,
+            registers: told.registers,
+            dead: told.deaths.names,
+            references: told.deaths.counts,
         })
     }
 

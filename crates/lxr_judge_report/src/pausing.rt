@@ -1,5 +1,5 @@
 //! How a pause moves a position on.
-ghost use Rattle.std.specs.Prelude.{◌≡◌, IfOk, OnErr, OnOk};
+ghost use Rattle.std.specs.Prelude.{◌≡◌, [], IfOk, OnErr, OnOk};
 ghost use Rattle.lxr_graph.specs.Names.{AreInOrder};
 ghost use Rattle.lxr_graph.specs.Names as names;
 ghost use Rattle.lxr_graph.specs.History.{report_of};
@@ -15,6 +15,15 @@ use lxr_judge_sets::{NameSet, reachable};
 use lxr_layout::Name;
 use std::alloc::{AllocError, Global};
 
+/// What a pause with this report leaves of these names.
+fn left_of(alloc: Global, report: &Report, all: &NameSet) -> Result<NameSet, AllocError>
+    ensures { IfOk result (λ left. left ≡ moments.left_by (report_of report.now) all.now) }
+{
+    let dead = NameSet::of(alloc, report.dead.as_slice())?;
+    let swept = NameSet::of(alloc, report.swept.as_slice())?;
+    all.without_both(alloc, &dead, &swept)
+}
+
 /// What a pause with this report leaves of these names and those that join them.
 fn left_by(
     alloc: Global,
@@ -26,10 +35,7 @@ fn left_by(
         → left ≡ moments.left_by (report_of report.now) (names.union joining.now present.now)) }
 {
     let all = joining.union(alloc, present)?;
-    let dead = NameSet::of(alloc, report.dead.as_slice())?;
-    let swept = NameSet::of(alloc, report.swept.as_slice())?;
-    let undead = all.without(alloc, &dead)?;
-    undead.without(alloc, &swept)
+    left_of(alloc, report, &all)
 }
 
 /// The same, where the names that join stand in a list.
@@ -69,10 +75,17 @@ impl Position {
     {
         let made = NameSet::new(alloc)?;
         let last = self.last_after(alloc, report)?;
+        self.begin_anew(alloc, last, made);
+        Ok(())
+    }
+
+    /// What is kept of a pause takes the place of what was kept, and nothing is made or written since.
+    fn begin_anew(&mut self, alloc: Global, last: LastPause, made: NameSet)
+        ensures { self.new ≡ record self.old { last = last; made = made; written = [] } }
+    {
         self.last = last;
         self.made = made;
         self.written = IndexSet::new(alloc);
-        Ok(())
     }
 
     /// What is to be kept of a pause with this report.

@@ -1,13 +1,14 @@
 //! A position in a history, and how a call moves it on.
 ghost use Rattle.std.specs.Prelude.{◌≡◌, ◌∷◌, ◌-◌, ◌^◌, ◌<◌, ◌≤◌, [], IfOk, OnOk, length};
 ghost use Rattle.std.specs.Option.{option_map};
+ghost use Rattle.lxr_graph.specs.Names.{without};
 ghost use Rattle.lxr_graph.specs.State.{register_at, row_of, world_name};
 ghost use Rattle.lxr_graph.specs.Step.{IsWellFormed};
 ghost use Rattle.lxr_graph.specs.Step as steps;
 ghost use Rattle.lxr_model.specs.Moments.{opening_moment};
 ghost use Rattle.lxr_judge_report.specs.Fields.{field_of, made_with, fields_with};
 ghost use Rattle.lxr_judge_report.specs.Fields as fields;
-ghost use Rattle.lxr_judge_report.specs.LastPauses.{began_of};
+ghost use Rattle.lxr_judge_report.specs.LastPauses.{TellsState, began_of};
 ghost use Rattle.lxr_judge_report.specs.Positions.{IsAt, MovesByCall, Tells, kept_leave_no_run, reached_leave_no_run};
 ghost use Rattle.lxr_judge_report.specs.Positions as present;
 
@@ -77,6 +78,27 @@ fn world_alone(alloc: Global) -> Result<NameSet, AllocError>
     Ok(set)
 }
 
+/// What is kept before the first item, as of a pause that leaves the world alone.
+fn opening_pause(alloc: Global, graph: &Graph) -> Result<LastPause, AllocError>
+    ensures number { IfOk result (λ past. past.number ≡ 0) }
+    ensures unreclaimed { IfOk result (λ past. past.unreclaimed ≡ world_name ∷ []) }
+    ensures stuck { IfOk result (λ past. past.stuck ≡ world_name ∷ []) }
+    ensures trace { IfOk result (λ past. past.trace ≡ None) }
+    ensures state { IfOk result (λ past. TellsState past graph.now) }
+{
+    let unreclaimed = world_alone(alloc)?;
+    let stuck = world_alone(alloc)?;
+    LastPause::new(alloc, graph, 0, unreclaimed, stuck, None)
+}
+
+/// These names without the world.
+fn without_world(alloc: Global, all: &NameSet) -> Result<NameSet, AllocError>
+    ensures { IfOk result (λ others. others ≡ without all.now (world_name ∷ [])) }
+{
+    let world = world_alone(alloc)?;
+    all.without(alloc, &world)
+}
+
 /// Whether an operation with this reply wrote a reference.
 fn is_write(reply: Reply) -> bool
     ensures { result ≡ fields.is_write reply }
@@ -91,13 +113,12 @@ impl Position {
         ensures { IfOk result (λ position. IsAt position (opening_moment threads)) }
     {
         let graph = Graph::new(alloc, threads)?;
-        let unreclaimed = world_alone(alloc)?;
-        let stuck = world_alone(alloc)?;
-        let last = LastPause::new(alloc, &graph, 0, unreclaimed, stuck, None)?;
+        let last = opening_pause(alloc, &graph)?;
+        let made = NameSet::new(alloc)?;
         Ok(Position {
             graph,
             last,
-            made: NameSet::new(alloc)?,
+            made,
             written: IndexSet::new(alloc),
         })
     }
@@ -230,7 +251,7 @@ impl Position {
         ensures { IfOk result (Tells self.now (kept_leave_no_run blocks lines)) }
     {
         let all = self.made.union(alloc, self.last.unreclaimed())?;
-        let others = all.without(alloc, &world_alone(alloc)?)?;
+        let others = without_world(alloc, &all)?;
         Ok(leave_no_run(&self.graph, others.names(), blocks, lines))
     }
 
@@ -246,7 +267,7 @@ impl Position {
         ensures { IfOk result (Tells self.now (reached_leave_no_run blocks lines)) }
     {
         let all = reachable(alloc, &self.graph)?;
-        let others = all.without(alloc, &world_alone(alloc)?)?;
+        let others = without_world(alloc, &all)?;
         Ok(leave_no_run(&self.graph, others.names(), blocks, lines))
     }
 }

@@ -1,6 +1,7 @@
 //! The report of a pause, in three parts: what it gains, what it loses, and the counts of what is left.
 ghost use Rattle.std.specs.Prelude.{◌≡◌, ◌+◌, ◌-◌, ◌^◌, ◌<◌, IfOk, OnOk, count_by, filter, map, slice_index_or};
 ghost use Rattle.lxr_layout.specs.declared.Name.{Name as NameOf};
+ghost use Rattle.lxr_graph.specs.Names.{AreInOrder, union, without};
 ghost use Rattle.lxr_graph.specs.State.{object_at, refs_of};
 ghost use Rattle.lxr_graph.specs.History.{HasToldCounts, report_of};
 ghost use Rattle.lxr_model.specs.Reports.{field_holds, newly_held};
@@ -8,7 +9,7 @@ ghost use Rattle.lxr_model.specs.Reports as pause;
 ghost use Rattle.lxr_judge_sets.specs.ByName.{value_at};
 ghost use Rattle.lxr_judge_report.specs.Fields.{field_of, newly_of};
 ghost use Rattle.lxr_judge_report.specs.Positions.{IsReportAt};
-ghost use Rattle.lxr_judge_report.specs.Stages.{CountsAfter, GainsAt, LossesAfter, becomes_stuck, becomes_stuck_by};
+ghost use Rattle.lxr_judge_report.specs.Stages.{CountsAfter, GainsAt, KeptAt, LossesAfter, becomes_stuck, becomes_stuck_by};
 ghost use Rattle.lxr_judge_report.specs.Stages.{count_before_now, counted};
 ghost use Rattle.lxr_judge_report.specs.Stages.{drained_of, raised_now, swept_now, swept_of};
 
@@ -29,11 +30,25 @@ struct Gains {
     stuck: NameSet,
 }
 
+/// What is promoted, and what a pause keeps with that.
+#[derive(Drop)]
+struct Kept {
+    promoted: NameSet,
+    kept: NameSet,
+}
+
 /// What a pause loses: the dead and the swept.
 #[derive(Drop)]
 struct Losses {
     dead: NameSet,
     swept: NameSet,
+}
+
+/// What a pause sweeps of the names that its second dead leave, and which of the rest die behind that.
+#[derive(Drop)]
+struct Later {
+    swept: NameSet,
+    third: NameSet,
 }
 
 /// Whether a pause of this kind finishes the decrements that it queues.
@@ -58,6 +73,22 @@ fn drained(
     }
     let deaths = dead(alloc, graph, names, stuck)?;
     Ok(deaths.names)
+}
+
+/// The third dead of a pause of this kind: those that the swept leave of these names.
+fn third_dead(
+    alloc: Global,
+    graph: &Graph,
+    kind: Kind,
+    left: &NameSet,
+    swept: &NameSet,
+    stuck: &NameSet,
+) -> Result<NameSet, AllocError>
+    ensures { IfOk result (λ set.
+        set ≡ drained_of graph.now (pause.is_draining kind) (without left.now swept.now) stuck.now) }
+{
+    let remaining = left.without(alloc, swept)?;
+    drained(alloc, graph, kind, &remaining, stuck)
 }
 
 /// What a register holds newly: what it holds now, unless it held that before.
@@ -161,17 +192,25 @@ impl Position {
     fn gains(&self, alloc: Global) -> Result<Gains, AllocError>
         ensures { IfOk result (λ gains. GainsAt self.now gains.promoted gains.kept gains.newly_stuck gains.stuck) }
     {
-        let old = self.last.unreclaimed().without(alloc, self.last.dead())?;
-        let promoted = promoted(alloc, &self.graph, old.names(), &self.made)?;
-        let kept = promoted.union(alloc, &old)?;
-        let newly_stuck = self.newly_stuck(alloc, &promoted, &kept)?;
+        let parts = self.kept(alloc)?;
+        let newly_stuck = self.newly_stuck(alloc, &parts.promoted, &parts.kept)?;
         let stuck = newly_stuck.union(alloc, self.last.stuck())?;
         Ok(Gains {
-            promoted,
-            kept,
+            promoted: parts.promoted,
+            kept: parts.kept,
             newly_stuck,
             stuck,
         })
+    }
+
+    /// What is promoted now, and what a pause keeps with that.
+    fn kept(&self, alloc: Global) -> Result<Kept, AllocError>
+        ensures { IfOk result (λ parts. KeptAt self.now parts.promoted parts.kept) }
+    {
+        let old = self.last.unreclaimed().without(alloc, self.last.dead())?;
+        let promoted = promoted(alloc, &self.graph, old.names(), &self.made)?;
+        let kept = promoted.union(alloc, &old)?;
+        Ok(Kept { promoted, kept })
     }
 
     /// Those of the kept names that become stuck.
@@ -244,13 +283,43 @@ impl Position {
         ensures { IfOk result (λ losses. LossesAfter self.now gains.now.kept gains.now.stuck kind losses.dead losses.swept) }
     {
         let second = drained(alloc, &self.graph, kind, &gains.kept, &gains.stuck)?;
-        let left = gains.kept.without(alloc, &second)?;
+        let later = self.later(alloc, kind, gains, &second)?;
+        let dead = self.all_dead(alloc, &second, &later.third)?;
+        Ok(Losses {
+            dead,
+            swept: later.swept,
+        })
+    }
+
+    /// What a pause of this kind sweeps behind its second dead, and who dies behind that.
+    fn later(
+        &self,
+        alloc: Global,
+        kind: Kind,
+        gains: &Gains,
+        second: &NameSet,
+    ) -> Result<Later, AllocError>
+        ensures swept { IfOk result (λ later. later.swept ≡ swept_now self.now (without gains.now.kept second.now) kind) }
+        ensures third { IfOk result (λ later. later.third
+            ≡ drained_of self.now.state (pause.is_draining kind) (without (without gains.now.kept second.now) later.swept) gains.now.stuck) }
+    {
+        let left = gains.kept.without(alloc, second)?;
         let swept = self.swept(alloc, kind, &left)?;
-        let remaining = left.without(alloc, &swept)?;
-        let third = drained(alloc, &self.graph, kind, &remaining, &gains.stuck)?;
-        let later = second.union(alloc, &third)?;
-        let dead = self.last.dead().union(alloc, &later)?;
-        Ok(Losses { dead, swept })
+        let third = third_dead(alloc, &self.graph, kind, &left, &swept, &gains.stuck)?;
+        Ok(Later { swept, third })
+    }
+
+    /// All dead of a pause, with its second and its third.
+    fn all_dead(
+        &self,
+        alloc: Global,
+        second: &NameSet,
+        third: &NameSet,
+    ) -> Result<NameSet, AllocError>
+        ensures { IfOk result (λ dead. AreInOrder third.now → dead ≡ union self.now.last.dead (union second.now third.now)) }
+    {
+        let later = second.union(alloc, third)?;
+        self.last.dead().union(alloc, &later)
     }
 
     /// What a pause of this kind sweeps of the names left.
@@ -288,10 +357,22 @@ impl Position {
         if !is_draining(kind) {
             return Ok(Counts::new(alloc));
         }
-        let all = gains.promoted.union(alloc, self.last.unreclaimed())?;
-        let undead = all.without(alloc, &losses.dead)?;
-        let unreclaimed = undead.without(alloc, &losses.swept)?;
+        let unreclaimed = self.remaining(alloc, gains, losses)?;
         let references = references(alloc, &self.graph, unreclaimed.names())?;
         count_names(alloc, unreclaimed.names(), &gains.stuck, &references)
+    }
+
+    /// What a pause with these gains and losses leaves unreclaimed.
+    fn remaining(
+        &self,
+        alloc: Global,
+        gains: &Gains,
+        losses: &Losses,
+    ) -> Result<NameSet, AllocError>
+        ensures { IfOk result (λ left. AreInOrder self.now.last.unreclaimed
+            → left ≡ without (without (union gains.now.promoted self.now.last.unreclaimed) losses.now.dead) losses.now.swept) }
+    {
+        let all = gains.promoted.union(alloc, self.last.unreclaimed())?;
+        all.without_both(alloc, &losses.dead, &losses.swept)
     }
 }

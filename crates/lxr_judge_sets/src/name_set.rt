@@ -119,6 +119,19 @@ impl NameSet {
         NameSet::of(alloc, &left)
     }
 
+    /// Those of its names that neither of two other sets has, in their order.
+    pub fn without_both(
+        &self,
+        alloc: Global,
+        first: &NameSet,
+        second: &NameSet,
+    ) -> Result<NameSet, AllocError>
+        ensures { IfOk result (λ left. left ≡ without (without self.now first.now) second.now) }
+    {
+        let some = self.without(alloc, first)?;
+        some.without(alloc, second)
+    }
+
     /// The names of both sets, in their order.
     pub fn union(&self, alloc: Global, other: &NameSet) -> Result<NameSet, AllocError>
         ensures { IfOk result (λ both. AreInOrder other.now → both ≡ union self.now other.now) }

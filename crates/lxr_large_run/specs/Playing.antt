@@ -1,8 +1,9 @@
 -- How far a script with large objects was played: what holds between its operations, and right behind a call.
-use Rattle.std.specs.Prelude.{◌≡◌, ℕ, ◌+◌, ◌*◌, ◌≤◌, ◌&&◌, if◌then◌else◌, not, Bool, Option, List, [], ◌∷◌, ◌++◌, length}
+use Rattle.std.specs.Prelude.{◌≡◌, ℕ, ◌+◌, ◌*◌, ◌≤◌, ◌&&◌, not, Bool, Option, List, [], ◌∷◌, ◌++◌, length}
 use Rattle.lxr_graph.specs.declared.report.Report.{Report}
 use Rattle.lxr_text_stream.specs.Streams.{Appends, AppendsFront}
 use Rattle.lxr_text_print.specs.Reports.{is_plain}
+use Rattle.lxr_one_pause.specs.Telling.{TellsWanted}
 use Rattle.lxr_large_model.specs.declared.LargeOp.{LargeOp}
 use Rattle.lxr_large_model.specs.declared.LargeReply.{LargeReply}
 use Rattle.lxr_large_model.specs.Full.{LargeTerms}
@@ -25,7 +26,7 @@ pub record LargeTask : Type 0 where
 
 -- A report tells its counts where they are printed: where they are asked for, and the pause isn't plain. Else it tells none.
 abbrev pub TellsPrinted : Bool → Report → Type 0
-TellsPrinted counts r = r.told.items ≡ (if counts && not (is_plain r.kind) then r.counts.items else [])
+TellsPrinted counts r = TellsWanted (counts && not (is_plain r.kind)) r
 
 -- The script was played up to these operations: the heap is that of a history whose calls are those before them, nothing is owed to it, its
 -- replies are kept, its reports were written, and the last one tells the counts that are printed. Two pauses at most were made for each call, and one object.

@@ -9,3 +9,4 @@ pub mod SumLemmas
 pub mod BalanceLemmas
 pub mod StoreLemmas
 pub mod FollowingLemmas
+pub mod ReplyLemmas

@@ -19,11 +19,12 @@ use Rattle.lxr_mutator.specs.declared.phases.MutEnd.TheVariants as ends
 use Rattle.lxr_mutator.specs.declared.phases.MutatorPhase.TheVariants as phase
 use Rattle.lxr_mutator.specs.declared.phases.Stop.{Stop}
 use Rattle.lxr_mutator.specs.declared.phases.Stop.TheVariants as stop
+use Rattle.lxr_mutator.specs.Naming.{unnamed}
 use Rattle.lxr_mutator.specs.Operating.{dest_of, found_reply, indexed_fields, index_of, value_of}
 use Rattle.lxr_mutator.specs.Mutating.{Mutating, op_now, register, rests_in}
-use Rattle.lxr_mutator.specs.Steps.{accepts_in, action, adding, after, based, data_word, done_with, finished, name_told, next_in, reached, reaching, shape_told, started, stored, with_register}
+use Rattle.lxr_mutator.specs.Steps.{accepts_in, action, adding, after, based, data_word, done_with, finished, name_told, next_in, reached, reaching, referring, shape_told, started, stored, with_register}
 use Rattle.lxr_mutator.specs.Units.{GoesOn, led}
-use Rattle.lxr_mutator.specs.Found.{AddTells, AddsTellWhatTheyFind, IsUnread, RepliesSo, SwapTells, SwapsTellWhatTheyFind, swapping}
+use Rattle.lxr_mutator.specs.Found.{AddTells, AddsTellWhatTheyFind, IsUnread, RepliesSo, SwapNames, SwapTells, SwapsTellWhatTheyFind, swapping}
 use Rattle.lxr_mutator.proofs.StepLemmas.{done_rests}
 use Rattle.lxr_mutator.proofs.UnitLemmas.{led_more, two_more}
 
@@ -116,7 +117,7 @@ data SwapWay (m : Mutating) (dest base index source : ℕ) (front : List ℕ) (x
   stores : (s : Storing) (log : Roomy LogEntry) → x ≡ in_store m log s
       → s ≡ record (begun_swap m.regions (register m base) index (register m source)) { phase = s.phase } → end_of s ≡ None → SwapWay m dest base index source front x
   refers : (found : ℕ) (before : List ℕ) (log : Roomy LogEntry) → front ≡ before ++ found ∷ []
-      → action (led m before) ≡ swapping (reference_word (register m base) index) (register m source).0 → (place_in found).0 ≢ 0
+      → action (led m before) ≡ swapping (reference_word (register m base) index) (register m source).0 → (place_in found).0 ≢ 0 → m.names ≡ true
       → x ≡ at_found m dest log (place_in found) → SwapWay m dest base index source front x
   gives_up : (log : Roomy LogEntry) (why : Stop) → x ≡ record m { log = log; phase = phase.GivingUp why } → SwapWay m dest base index source front x
 
@@ -152,14 +153,25 @@ module _ (m : Mutating) (dest base index source : ℕ) (now : op_now m ≡ op.Sw
       subst (λ (o : Op). SwapLeads (pause ∷ header ∷ []) (if nat_lt (index_of o) (indexed_fields o shape) then record here { phase = reaching here (register m base) shape o } else done_with here reply.Range)) (sym now)
       (swap_field pause header (nat_lt index shape.refs) refl)
 
-  -- it has found nil, or a place whose name is looked up
+  -- it has found a place: the name of that is looked up, or the swap is done
+  swap_referred : (front : List ℕ) (old : ℕ) (log : Roomy LogEntry) → action (led m front) ≡ swapping (reference_word (register m base) index) (register m source).0 → (place_in old).0 ≢ 0
+      → (names : Bool) → m.names ≡ names → SwapLeads (front ++ old ∷ []) (referring (with_register (record m { log = log }) dest (place_in old)) names (place_in old))
+  swap_referred front old log acts some true tells = inl (refl, inside (refers old front log refl acts some tells refl))
+  swap_referred front old log acts some false tells =
+      let here = with_register (record m { log = log }) dest (place_in old) in
+      let to = done_with here (reply.Swapped (Some unnamed)) in
+      subst (λ (o : Op). SwapLeads (front ++ old ∷ []) (done_with here (found_reply o (Some unnamed)))) (sym now)
+      (replies m base Within Tells swap_at_base (front ++ old ∷ []) here (reply.Swapped (Some unnamed)) refl
+      (old, some, subst (SwapNames m dest base index source (front ++ old ∷ []) to unnamed old) (sym tells) (record { before = front; is = refl; swaps = acts; holds = refl }, refl)))
+
+  -- it has found nil, or a place
   swap_took : (front : List ℕ) (old : ℕ) (log : Roomy LogEntry) → action (led m front) ≡ swapping (reference_word (register m base) index) (register m source).0 → (b : Bool) → nat_eq (place_in old).0 0 ≡ b
       → SwapLeads (front ++ old ∷ [])
-      (if b then done_with (with_register (record m { log = log }) dest (place_in old)) (reply.Swapped None) else record (with_register (record m { log = log }) dest (place_in old)) { phase = phase.Referent (place_in old) })
+      (if b then done_with (with_register (record m { log = log }) dest (place_in old)) (reply.Swapped None) else referring (with_register (record m { log = log }) dest (place_in old)) m.names (place_in old))
   swap_took front old log acts true e =
       replies m base Within Tells swap_at_base (front ++ old ∷ []) (with_register (record m { log = log }) dest (place_in old)) (reply.Swapped None) refl
       (old, record { before = front; is = refl; swaps = acts; holds = refl }, grind arith)
-  swap_took front old log acts false e = inl (refl, inside (refers old front log refl acts (grind arith) refl))
+  swap_took front old log acts false e = swap_referred front old log acts (grind arith) m.names refl
 
   swap_took_at : (front : List ℕ) (s : Storing) (log more : Roomy LogEntry) (old : ℕ) (place : Place) → led m front ≡ in_store m log s
       → s ≡ record (begun_swap m.regions (register m base) index (register m source)) { phase = s.phase } → IsTrue (swaps_next s) → place ≡ place_in old
@@ -169,7 +181,7 @@ module _ (m : Mutating) (dest base index source : ℕ) (now : op_now m ≡ op.Sw
       ap action at ∙ swap_acts s swaps ∙ ap (λ (z : Storing). swapping (target z) z.value.0) same in
       subst (λ (p : Place). SwapLeads (front ++ old ∷ []) (stored (in_store m log s) (store_after s log old) more (Some (store_end.Swapped p)))) (sym is)
       (subst (λ (o : Op). SwapLeads (front ++ old ∷ []) (if nat_eq (place_in old).0 0 then done_with (with_register (record m { log = more }) (dest_of o) (place_in old)) (found_reply o None)
-      else record (with_register (record m { log = more }) (dest_of o) (place_in old)) { phase = phase.Referent (place_in old) })) (sym now)
+      else referring (with_register (record m { log = more }) (dest_of o) (place_in old)) m.names (place_in old))) (sym now)
       (swap_took front old more acts (nat_eq (place_in old).0 0) refl))
 
   -- the store has gone on
@@ -184,11 +196,17 @@ module _ (m : Mutating) (dest base index source : ℕ) (now : op_now m ≡ op.Sw
 
   -- the name of what it has found
   swap_named : (front before : List ℕ) (found old : ℕ) (log : Roomy LogEntry) → front ≡ before ++ found ∷ []
-      → action (led m before) ≡ swapping (reference_word (register m base) index) (register m source).0 → (place_in found).0 ≢ 0
+      → action (led m before) ≡ swapping (reference_word (register m base) index) (register m source).0 → (place_in found).0 ≢ 0 → m.names ≡ true
       → SwapLeads (front ++ old ∷ []) (done_with (at_found m dest log (place_in found)) (reply.Swapped (Some (name_told (header_of old)))))
-  swap_named front before found old log is acts some =
-      replies m base Within Tells swap_at_base (front ++ old ∷ []) (at_found m dest log (place_in found)) (reply.Swapped (Some (name_told (header_of old)))) refl
-      (found, old, record { before = before; is = ap (λ ws. ws ++ old ∷ []) is ∙ two_more before found old; swaps = acts; holds = refl }, some, refl)
+  swap_named front before found old log is acts some tells =
+      let name = name_told (header_of old) in
+      let to = done_with (at_found m dest log (place_in found)) (reply.Swapped (Some name)) in
+      replies m base Within Tells swap_at_base (front ++ old ∷ []) (at_found m dest log (place_in found)) (reply.Swapped (Some name)) refl (
+        found,
+        some,
+        subst (SwapNames m dest base index source (front ++ old ∷ []) to name found) (sym tells)
+            (old, record { before = before; is = ap (λ ws. ws ++ old ∷ []) is ∙ two_more before found old; swaps = acts; holds = refl }, refl),
+      )
 
   -- each step within
   swap_within : (front : List ℕ) (x : Mutating) (old : ℕ) → led m front ≡ x → Within front x → SwapLeads (front ++ old ∷ []) (after x old)
@@ -198,11 +216,11 @@ module _ (m : Mutating) (dest base index source : ℕ) (now : op_now m ≡ op.Sw
           → SwapLeads (front ++ old ∷ []) (if b then stored (in_store m log s) (store_after s log old) (log_after s log old) (end_of (store_after s log old)) else done_with (in_store m log s) reply.Bad)
       by_word true e = swap_stored front s log old (at ∙ is) same on (end_of (store_after s log old)) refl
       by_word false e = unread_by m base Within Tells swap_at_base front (in_store m log s) old (at ∙ is) refl e
-  swap_within front x old at (refers found before log begun acts some is) = subst (λ (y : Mutating). SwapLeads (front ++ old ∷ []) (after y old)) (sym is) (by_word (accepts_in (at_found m dest log (place_in found)) (phase.Referent (place_in found)) old) refl)
+  swap_within front x old at (refers found before log begun acts some tells is) = subst (λ (y : Mutating). SwapLeads (front ++ old ∷ []) (after y old)) (sym is) (by_word (accepts_in (at_found m dest log (place_in found)) (phase.Referent (place_in found)) old) refl)
     where
       by_word : (b : Bool) → accepts_in (at_found m dest log (place_in found)) (phase.Referent (place_in found)) old ≡ b
           → SwapLeads (front ++ old ∷ []) (if b then done_with (at_found m dest log (place_in found)) (found_reply (op_now m) (Some (name_told (header_of old)))) else done_with (at_found m dest log (place_in found)) reply.Bad)
-      by_word true e = subst (λ (o : Op). SwapLeads (front ++ old ∷ []) (done_with (at_found m dest log (place_in found)) (found_reply o (Some (name_told (header_of old)))))) (sym now) (swap_named front before found old log begun acts some)
+      by_word true e = subst (λ (o : Op). SwapLeads (front ++ old ∷ []) (done_with (at_found m dest log (place_in found)) (found_reply o (Some (name_told (header_of old)))))) (sym now) (swap_named front before found old log begun acts some tells)
       by_word false e = unread_by m base Within Tells swap_at_base front (at_found m dest log (place_in found)) old (at ∙ is) refl e
   swap_within front x old at (gives_up log why is) = subst (λ (y : Mutating). SwapLeads (front ++ old ∷ []) (after y old)) (sym is) (inr (refl, inl refl))
 

@@ -13,3 +13,5 @@ pub mod StepLemmas
 pub mod UnitLemmas
 pub mod CauseLemmas
 pub mod FoundLemmas
+pub mod NamingLemmas
+pub mod NamelessLemmas

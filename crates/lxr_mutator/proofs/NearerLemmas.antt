@@ -25,9 +25,10 @@ use Rattle.lxr_mutator.specs.declared.phases.MutatorPhase.{MutatorPhase}
 use Rattle.lxr_mutator.specs.declared.phases.MutatorPhase.TheVariants as phase
 use Rattle.lxr_mutator.specs.declared.phases.MutEnd.TheVariants as ends
 use Rattle.lxr_mutator.specs.declared.phases.Stop.TheVariants as stop
+use Rattle.lxr_mutator.specs.Naming.{unnamed}
 use Rattle.lxr_mutator.specs.Operating.{asked_reply, dest_of, found_reply, index_of, indexed_fields}
 use Rattle.lxr_mutator.specs.Mutating.{Mutating, next_name, nil, op_now, register, rests_in}
-use Rattle.lxr_mutator.specs.Steps.{accepts_in, action, action_in, after, after_in, based, done_with, draws_for, finished, has_room, in_current, in_overflow, is_medium, left_in, loaded, mutator_machine, name_told, next_in, reaching, shape_now, shape_told, started, stored, with_register}
+use Rattle.lxr_mutator.specs.Steps.{accepts_in, action, action_in, after, after_in, based, done_with, draws_for, finished, has_room, in_current, in_overflow, is_medium, left_in, loaded, mutator_machine, name_told, next_in, reaching, referring, shape_now, shape_told, started, stored, with_register}
 use Rattle.lxr_mutator.specs.Mutators.{IsMutator, MayBeIn}
 use Rattle.lxr_mutator.proofs.NowLemmas.{few_words}
 
@@ -92,10 +93,15 @@ asked_by m few false = omega (arith, started_to_go m (op_now m) few)
 pub ready_nearer : (m : Mutating) (old : ℕ) → word_count (shape_now m) ≤ GRANULES_IN_BLOCK → to_go mutator_machine (after_in m phase.Ready old) < 2054
 ready_nearer m old few = asked_by m few (nat_eq old 1)
 
--- a place that was found is nil, or its name is one step away
-loaded_by : (m : Mutating) (place : Place) (r : Reply) (b : Bool) → to_go mutator_machine (if b then done_with m r else record m { phase = phase.Referent place }) ≤ 1
+-- the name of a place that was found is one step away, or isn't told
+referring_by : (m : Mutating) (names : Bool) (place : Place) → to_go mutator_machine (referring m names place) ≤ 1
+referring_by m true place = omega arith
+referring_by m false place = omega (arith, done_to_go m (found_reply (op_now m) (Some unnamed)))
+
+-- a place that was found is nil or not
+loaded_by : (m : Mutating) (place : Place) (r : Reply) (b : Bool) → to_go mutator_machine (if b then done_with m r else referring m m.names place) ≤ 1
 loaded_by m place r true = omega (arith, done_to_go m r)
-loaded_by m place r false = omega arith
+loaded_by m place r false = referring_by m m.names place
 
 -- so it is by the place
 found_to_go : (m : Mutating) (place : Place) → to_go mutator_machine (loaded m place) ≤ 1

@@ -23,7 +23,7 @@ use Rattle.lxr_mutator.specs.declared.phases.Stop.{Stop}
 use Rattle.lxr_mutator.specs.declared.phases.Stop.TheVariants as stop
 use Rattle.lxr_mutator.specs.Operating.{dest_of, found_reply, indexed_fields, index_of, shape_made}
 use Rattle.lxr_mutator.specs.Mutating.{Mutating, op_now, register}
-use Rattle.lxr_mutator.specs.Steps.{accepts_in, action_in, after_in, next_in, done_with, draws_for, finished, has_room, in_current, in_overflow, is_medium, loaded, reaching, shape_now, shape_told, started, stored, with_register}
+use Rattle.lxr_mutator.specs.Steps.{accepts_in, action_in, after_in, next_in, done_with, draws_for, finished, has_room, in_current, in_overflow, is_medium, loaded, reaching, referring, shape_now, shape_told, started, stored, with_register}
 use Rattle.lxr_mutator.specs.Laws.{Finds, IsPastRuns, MutatorsDrawByRule, MutatorsGiveUpByRules}
 
 -- the phases in which a unit gives up, draws a block, or has drawn a number
@@ -67,10 +67,15 @@ reached_on : (m : Mutating) (base : Place) (shape : Shape) (b : Bool) → halts 
 reached_on m base shape true = reaching_on m base shape (op_now m)
 reached_on m base shape false = done_on halts refl refl (nat_le m.every (m.since + 1))
 
+-- nor does looking a name up, or telling none
+referring_on : (m : Mutating) (names : Bool) (place : Place) → halts (referring m names place).phase ≡ false
+referring_on m true place = refl
+referring_on m false place = done_on halts refl refl (nat_le m.every (m.since + 1))
+
 -- nor does a load or a swap
-loaded_on : (m : Mutating) (place : Place) (r : Reply) (b : Bool) → halts (if b then done_with m r else record m { phase = phase.Referent place }).phase ≡ false
+loaded_on : (m : Mutating) (place : Place) (r : Reply) (b : Bool) → halts (if b then done_with m r else referring m m.names place).phase ≡ false
 loaded_on m place r true = done_on halts refl refl (nat_le m.every (m.since + 1))
-loaded_on m place r false = refl
+loaded_on m place r false = referring_on m m.names place
 
 -- so it is of the place that it finds
 found_on : (m : Mutating) (place : Place) → halts (loaded m place).phase ≡ false

@@ -31,9 +31,10 @@ use Rattle.lxr_mutator.specs.declared.phases.MutEnd.TheVariants as ends
 use Rattle.lxr_mutator.specs.declared.phases.MutatorPhase.{MutatorPhase}
 use Rattle.lxr_mutator.specs.declared.phases.MutatorPhase.TheVariants as phase
 use Rattle.lxr_mutator.specs.declared.phases.Stop.TheVariants as stop
+use Rattle.lxr_mutator.specs.Naming.{unnamed}
 use Rattle.lxr_mutator.specs.Operating.{dest_of, found_reply, indexed_fields, index_of, shape_made}
 use Rattle.lxr_mutator.specs.Mutating.{Mutating, next_name, nil, op_now, register, rests_in}
-use Rattle.lxr_mutator.specs.Steps.{accepts_in, after_in, done_with, draws_for, end_by, ended, finished, has_room, in_current, in_overflow, is_medium, loaded, placed, reaching, run_in, shape_now, shape_told, started, stored, with_register}
+use Rattle.lxr_mutator.specs.Steps.{accepts_in, after_in, done_with, draws_for, end_by, ended, finished, has_room, in_current, in_overflow, is_medium, loaded, placed, reaching, referring, run_in, shape_now, shape_told, started, stored, with_register}
 use Rattle.lxr_mutator.specs.Mutators.{AreInHeap, AreRegisters, IsHeld, IsIn, IsMutator, IsThrough, MayBeIn, NeedsBlock, NeedsRun}
 use Rattle.lxr_mutator.specs.Laws.{MutatorsStaySo}
 use Rattle.lxr_mutator.proofs.NowLemmas.{few_words, formed_now}
@@ -154,11 +155,16 @@ based_stays : (m : Mutating) (base : Place) → IsMutator m → GoesOn m → IsH
 based_stays m base is on held true e = done_stays m reply.Bad is on
 based_stays m base is on held false e = go m (phase.Base base) is on (grind arith, held)
 
+-- the name of a place that was found is looked up, or none is told
+referring_stays : (m : Mutating) (names : Bool) (place : Place) → IsMutator m → GoesOn m → IsPlace place → IsMutator (referring m names place)
+referring_stays m true place is on at = go m (phase.Referent place) is on at
+referring_stays m false place is on at = done_stays m (found_reply (op_now m) (Some unnamed)) is on
+
 -- a place was loaded or swapped out, nil or not
 loaded_stays : (m : Mutating) (place : Place) (r : Reply) → IsMutator m → GoesOn m → IsHeld place → (b : Bool) → nat_eq place.0 0 ≡ b
-    → IsMutator (if b then done_with m r else record m { phase = phase.Referent place })
+    → IsMutator (if b then done_with m r else referring m m.names place)
 loaded_stays m place r is on held true e = done_stays m r is on
-loaded_stays m place r is on held false e = go m (phase.Referent place) is on (grind arith, held)
+loaded_stays m place r is on held false e = referring_stays m m.names place is on (grind arith, held)
 
 -- a place was found in a field
 found_stays : (m : Mutating) (place : Place) → IsMutator m → GoesOn m → IsHeld place → IsMutator (loaded m place)

@@ -21,9 +21,10 @@ use Rattle.lxr_mutator.specs.declared.phases.MutEnd.TheVariants as ends
 use Rattle.lxr_mutator.specs.declared.phases.MutatorPhase.{MutatorPhase}
 use Rattle.lxr_mutator.specs.declared.phases.MutatorPhase.TheVariants as phase
 use Rattle.lxr_mutator.specs.declared.phases.Stop.TheVariants as stop
+use Rattle.lxr_mutator.specs.Naming.{unnamed}
 use Rattle.lxr_mutator.specs.Operating.{asked_reply, dest_of, found_reply, indexed_fields, index_of}
 use Rattle.lxr_mutator.specs.Mutating.{Mutating, next_name, nil, op_now, register, rests_in}
-use Rattle.lxr_mutator.specs.Steps.{accepts_in, after_in, done_with, draws_for, finished, has_room, in_current, in_overflow, is_medium, loaded, name_told, reaching, shape_now, shape_told, started, stored, with_register}
+use Rattle.lxr_mutator.specs.Steps.{accepts_in, after_in, done_with, draws_for, finished, has_room, in_current, in_overflow, is_medium, loaded, name_told, reaching, referring, shape_now, shape_told, started, stored, with_register}
 use Rattle.lxr_mutator.specs.Laws.{MutatorsStepByRule, StepsByRule}
 use Rattle.lxr_mutator.specs.Laws.StepsByRule.{does_one, finds_asked, finds_end, gave_up, goes_on, stands_still}
 
@@ -91,11 +92,17 @@ reached_by m old base shape op.Pause true is = absurd (cc)
 reached_by m old base shape op.Collect true is = absurd (cc)
 reached_by m old base shape op.End true is = absurd (cc)
 
--- a place is loaded or swapped out, the log being this one
+-- a place that isn't nil was found, the log being this one: its name is looked up, or none is told
+referring_by : (m : Mutating) (old : ℕ) (log : Roomy LogEntry) (dest : ℕ) (place : Place) (names : Bool)
+    → StepsByRule m old (referring (with_register (record m { log = log }) dest place) names place)
+referring_by m old log dest place true = goes_on _ _ _ _ refl
+referring_by m old log dest place false = does_one log (slice_set m.registers dest place) (found_reply (op_now m) (Some unnamed))
+
+-- a place is loaded or swapped out
 loaded_by : (m : Mutating) (old : ℕ) (log : Roomy LogEntry) (dest : ℕ) (place : Place) (r : Reply) (b : Bool)
-    → StepsByRule m old (if b then done_with (with_register (record m { log = log }) dest place) r else record (with_register (record m { log = log }) dest place) { phase = phase.Referent place })
+    → StepsByRule m old (if b then done_with (with_register (record m { log = log }) dest place) r else referring (with_register (record m { log = log }) dest place) m.names place)
 loaded_by m old log dest place r true = does_one log (slice_set m.registers dest place) r
-loaded_by m old log dest place r false = goes_on _ _ _ _ refl
+loaded_by m old log dest place r false = referring_by m old log dest place m.names
 
 -- the place that was found
 found_by : (m : Mutating) (old : ℕ) (log : Roomy LogEntry) (place : Place) → StepsByRule m old (loaded (record m { log = log }) place)

@@ -1,5 +1,6 @@
 -- What units of `swap` and `add` reply, told by the words that their steps find.
-use Rattle.std.specs.Prelude.{◌≡◌, ◌≢◌, ℕ, ◌≤◌, ◌⊎◌, false, Option, Some, None, List, [], ◌∷◌, ◌++◌, slice_set}
+use Rattle.std.specs.Prelude.{◌≡◌, ◌≢◌, ℕ, ◌≤◌, ◌⊎◌, Bool, true, false, Option, Some, None, List, [], ◌∷◌, ◌++◌, slice_set}
+use Rattle.lxr_layout.specs.declared.Name.{Name}
 use Rattle.lxr_layout.specs.declared.Shape.{Shape}
 use Rattle.lxr_layout.specs.Objects.{header_of}
 use Rattle.lxr_layout.specs.Places.{place_in}
@@ -11,6 +12,7 @@ use Rattle.lxr_actor.specs.declared.Action.{Action}
 use Rattle.lxr_actor.specs.declared.Kindred.TheVariants.{Swap}
 use Rattle.lxr_barrier.specs.Storing.{reference_word}
 use Rattle.lxr_mutator.specs.Mutating.{Mutating, op_now, register}
+use Rattle.lxr_mutator.specs.Naming.{unnamed}
 use Rattle.lxr_mutator.specs.Steps.{accepts_in, action, adding, data_word, name_told, shape_told}
 use Rattle.lxr_mutator.specs.Units.{IsUnit, led}
 
@@ -34,12 +36,16 @@ pub record HasSwapped (m : Mutating) (dest base index source : ℕ) (olds : List
   pub swaps : action (led m before) ≡ swapping (reference_word (register m base) index) (register m source).0
   pub holds : to.registers ≡ slice_set m.registers dest (place_in found)
 
--- why a unit of these steps, which led to `to`, replied so to a swap: with nil or with a name it tells what its swap found, the name by the
--- header of that
+-- The name of what its swap found is the one that the header of that tells, in a step of its own; who tells no names makes no such step.
+abbrev pub SwapNames : Mutating → (dest base index source : ℕ) → List ℕ → Mutating → Name → ℕ → Bool → Type 0
+SwapNames m dest base index source olds to name found true =
+    (header : ℕ) × HasSwapped m dest base index source olds to found (header ∷ []) × (name ≡ name_told (header_of header))
+SwapNames m dest base index source olds to name found false = HasSwapped m dest base index source olds to found [] × (name ≡ unnamed)
+
+-- why a unit of these steps, which led to `to`, replied so to a swap: with nil or with a name it tells what its swap found
 abbrev pub SwapTells : Mutating → (dest base index source : ℕ) → List ℕ → Mutating → Reply → Type 0
 SwapTells m dest base index source olds to (reply.Swapped None) = (found : ℕ) × HasSwapped m dest base index source olds to found [] × ((place_in found).0 ≡ 0)
-SwapTells m dest base index source olds to (reply.Swapped (Some name)) =
-    (found : ℕ) × (header : ℕ) × HasSwapped m dest base index source olds to found (header ∷ []) × ((place_in found).0 ≢ 0) × (name ≡ name_told (header_of header))
+SwapTells m dest base index source olds to (reply.Swapped (Some name)) = (found : ℕ) × ((place_in found).0 ≢ 0) × SwapNames m dest base index source olds to name found m.names
 SwapTells m dest base index source olds to reply.Range = (shape : Shape) × IsBaseShape olds shape × (shape.refs ≤ index)
 SwapTells m dest base index source olds to reply.Bad = ((register m base).0 ≡ 0) ⊎ IsUnread m olds
 SwapTells m dest base index source olds to r = ⊥

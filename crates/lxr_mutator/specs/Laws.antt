@@ -16,7 +16,8 @@ use Rattle.lxr_mutator.specs.declared.phases.MutatorPhase.TheVariants as phase
 use Rattle.lxr_mutator.specs.declared.phases.Stop.{Stop}
 use Rattle.lxr_mutator.specs.declared.phases.Stop.TheVariants as stop
 use Rattle.lxr_mutator.specs.Mutating.{Mutating, op_now, rests_in}
-use Rattle.lxr_mutator.specs.Steps.{action, after, done_with, drawing, end_by, ended, finished, is_medium, left_in, shape_now, storing}
+use Rattle.lxr_mutator.specs.Naming.{looks_up, without_names}
+use Rattle.lxr_mutator.specs.Steps.{action, after, done_with, drawing, end_by, ended, finished, is_header, is_medium, left_in, shape_now, storing}
 use Rattle.lxr_mutator.specs.Mutators.{IsMutator, MayTakeOrder}
 use Rattle.lxr_mutator.specs.Orders.{ordered, with_order}
 
@@ -94,3 +95,22 @@ pub record TakesOrdersByRule (m : Mutating) (o : Op) : Type 0 where
 -- it is so with each order
 abbrev pub MutatorsTakeOrdersByRule : Type 0
 MutatorsTakeOrdersByRule = (m : Mutating) (o : Op) → TakesOrdersByRule m o
+
+-- Who tells no names makes the same steps, and finds the same, but for the look at a header: where who tells names is to look there, who tells none is
+-- done, with what that look would lead to.
+pub record StepsWithoutNames (m : Mutating) (old : ℕ) : Type 0 where
+  pub action : action (without_names m) ≡ action m
+  pub same : looks_up (after m old).phase ≡ false → after (without_names m) old ≡ without_names (after m old)
+  pub spared : (header : ℕ) → looks_up (after m old).phase ≡ true → is_header header ≡ true → after (without_names m) old ≡ without_names (after (after m old) header)
+
+-- it is so with each step, of a mutator that tells names and isn't looking one up
+abbrev pub MutatorsStepWithoutNames : Type 0
+MutatorsStepWithoutNames = (m : Mutating) (old : ℕ) → m.names ≡ true → looks_up m.phase ≡ false → StepsWithoutNames m old
+
+-- and with each order
+abbrev pub MutatorsTakeOrdersWithoutNames : Type 0
+MutatorsTakeOrdersWithoutNames = (m : Mutating) (o : Op) → ordered (without_names m) o ≡ (without_names (ordered m o).0, (ordered m o).1)
+
+-- and what holds of a mutator holds of it without names
+abbrev pub MutatorsAreSoWithoutNames : Type 0
+MutatorsAreSoWithoutNames = (m : Mutating) → IsMutator m ↔ IsMutator (without_names m)

@@ -3,6 +3,7 @@ pub mod Mutating
 pub mod Dialogues
 pub mod Agendas
 pub mod Keeping
+pub mod Naming
 pub mod Orders
 pub mod Steps
 pub mod Mutators

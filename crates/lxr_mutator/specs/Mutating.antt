@@ -27,6 +27,8 @@ pub record Mutating : Type 0 where
   pub operations : List Op
   pub regions : Regions
   pub every : ℕ
+  -- whether it tells the names of what it loads and swaps out, for which it looks at the headers
+  pub names : Bool
   pub log : Roomy LogEntry
   pub registers : List Place
   pub spans : Spans

@@ -1,5 +1,5 @@
 -- What holds of each mutator, and what becomes of it between its steps.
-use Rattle.std.specs.Prelude.{◌≡◌, ◌≢◌, ℕ, ◌+◌, ◌/◌, ◌^◌, ◌<◌, ◌≤◌, ◌⊎◌, false, if◌then◌else◌, nat_le, Option, Some, None, List, [], drop, length, replicate}
+use Rattle.std.specs.Prelude.{◌≡◌, ◌≢◌, ℕ, ◌+◌, ◌/◌, ◌^◌, ◌<◌, ◌≤◌, ◌⊎◌, Bool, true, false, if◌then◌else◌, nat_le, Option, Some, None, List, [], drop, length, replicate}
 use Rattle.std.specs.List.{All}
 use Rattle.lxr_layout.specs.declared.TheConstants.{MOST_GRANULES}
 use Rattle.lxr_layout.specs.declared.Place.{Place}
@@ -93,17 +93,19 @@ abbrev pub IsThrough : Mutating → Type 0
 IsThrough m = (m.phase ≡ phase.Finished) × (m.end ≡ Some ends.Ended)
 
 -- What no step of a mutator changes: its thread, what that is asked for and the room for its replies, the regions of its space, how many operations it
--- may do in an epoch, and how many objects it had as it began to count.
+-- may do in an epoch, whether it tells names, and how many objects it had as it began to count.
 pub record Setup : Type 0 where
   pub thread : ℕ
   pub operations : List Op
   pub room : ℕ
   pub regions : Regions
   pub every : ℕ
+  pub names : Bool
   pub before : ℕ
 
+-- that of a mutator
 abbrev pub setup_of : Mutating → Setup
-setup_of m = record { thread = m.thread; operations = m.operations; room = m.replies.room; regions = m.regions; every = m.every; before = m.before }
+setup_of m = record { thread = m.thread; operations = m.operations; room = m.replies.room; regions = m.regions; every = m.every; names = m.names; before = m.before }
 
 -- what holds of it
 pub record IsSetup (s : Setup) : Type 0 where
@@ -143,12 +145,13 @@ pub record IsBusy (m : Mutating) (p : MutatorPhase) : Type 0 where
   pub may : MayBeIn m p
 
 -- a mutator as it is made, with this agenda
-abbrev pub first_with : ℕ → Dialogue → Limits → ℕ → Mutating
-first_with thread agenda limits every = record {
+abbrev pub first_with : ℕ → Dialogue → Limits → ℕ → Bool → Mutating
+first_with thread agenda limits every names = record {
   thread = thread;
   operations = agenda.operations;
   regions = regions_of limits;
   every = every;
+  names = names;
   log = record { items = []; room = limits.log };
   registers = replicate 16 nil;
   spans = no_spans;
@@ -160,16 +163,16 @@ first_with thread agenda limits every = record {
 }
 
 -- with these operations, and with room for so many in all
-abbrev pub first_of : ℕ → List Op → Limits → ℕ → ℕ → Mutating
-first_of thread operations limits every most = first_with thread (first_dialogue operations most) limits every
+abbrev pub first_of : ℕ → List Op → Limits → ℕ → ℕ → Bool → Mutating
+first_of thread operations limits every most names = first_with thread (first_dialogue operations most) limits every names
 
--- one of a script: it has all its operations, and no room for others
+-- one of a script: it has all its operations, and no room for others, and tells names
 abbrev pub first : ℕ → List Op → Limits → ℕ → Mutating
-first thread operations limits every = first_of thread operations limits every (length operations)
+first thread operations limits every = first_of thread operations limits every (length operations) true
 
 -- one that is yet to be ordered its operations: it has room for one more than a thread may have, so there always is room
-abbrev pub first_live : ℕ → Limits → ℕ → Mutating
-first_live thread limits every = first_of thread [] limits every (MOST_OPERATIONS + 1)
+abbrev pub first_live : ℕ → Limits → ℕ → Bool → Mutating
+first_live thread limits every names = first_of thread [] limits every (MOST_OPERATIONS + 1) names
 
 -- It has no room for a further operation, as a mutator of a script, which is made with all of its own. A live one always has.
 abbrev pub IsFull : Mutating → Type 0

@@ -16,6 +16,7 @@ seen m = record {
   operations = m.agenda.operations;
   regions = m.regions;
   every = m.every;
+  names = m.names;
   log = m.log;
   registers = m.registers;
   spans = m.spans;

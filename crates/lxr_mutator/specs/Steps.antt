@@ -30,6 +30,7 @@ use Rattle.lxr_mutator.specs.declared.phases.MutatorPhase.{MutatorPhase}
 use Rattle.lxr_mutator.specs.declared.phases.MutatorPhase.TheVariants as phase
 use Rattle.lxr_mutator.specs.declared.phases.Stop.{Stop}
 use Rattle.lxr_mutator.specs.declared.phases.Stop.TheVariants as stop
+use Rattle.lxr_mutator.specs.Naming.{unnamed}
 use Rattle.lxr_mutator.specs.Operating.{dest_of, index_of, value_of, shape_made, indexed_fields, found_reply, asked_reply}
 use Rattle.lxr_mutator.specs.Mutating.{Mutating, nil, op_now, register, next_name, rests_in}
 use Rattle.lxr_mutator.specs.Orders.{ordered}
@@ -222,11 +223,16 @@ reached m base shape =
     if nat_lt (index_of (op_now m)) (indexed_fields (op_now m) shape) then record m { phase = reaching m base shape (op_now m) }
     else done_with m reply.Range
 
--- this place was found in the field: its register holds it, and its name is looked up unless it is nil
+-- a place that is not nil was found in the field: who tells names looks its name up
+abbrev pub referring : Mutating → Bool → Place → Mutating
+referring m true place = record m { phase = phase.Referent place }
+referring m false place = done_with m (found_reply (op_now m) (Some unnamed))
+
+-- this place was found in the field: its register holds it
 abbrev pub loaded : Mutating → Place → Mutating
 loaded m place =
     let m' = with_register m (dest_of (op_now m)) place in
-    if nat_eq place.0 0 then done_with m' (found_reply (op_now m) None) else record m' { phase = phase.Referent place }
+    if nat_eq place.0 0 then done_with m' (found_reply (op_now m) None) else referring m' m.names place
 
 -- its store has gone on, with this log, and has ended so
 abbrev pub stored : Mutating → Storing → Roomy LogEntry → Option StoreEnd → Mutating

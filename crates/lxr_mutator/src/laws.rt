@@ -1,6 +1,6 @@
 //! What holds of every mutator. The functions do nothing: the contract of each is the law, and whoever calls one knows
 //! it.
-ghost use Rattle.lxr_mutator.specs.Laws.{MutatorsDrawByRule, MutatorsGiveUpByRules, MutatorsStaySo, MutatorsStepByRule, MutatorsTakeOrdersByRule, UnitsAreShort};
+ghost use Rattle.lxr_mutator.specs.Laws.{MutatorsDrawByRule, MutatorsGiveUpByRules, MutatorsAreSoWithoutNames, MutatorsStaySo, MutatorsStepByRule, MutatorsStepWithoutNames, MutatorsTakeOrdersByRule, MutatorsTakeOrdersWithoutNames, UnitsAreShort};
 ghost use Rattle.lxr_mutator.specs.Found.{AddsTellWhatTheyFind, SwapsTellWhatTheyFind};
 ghost use Rattle.lxr_mutator.specs.Units.{CausesEndUnits, UnitsEndByRules};
 
@@ -56,4 +56,12 @@ pub fn mutators_take_orders_by_rule()
 pub fn swaps_and_adds_tell_what_they_find()
     ensures swaps { SwapsTellWhatTheyFind }
     ensures adds { AddsTellWhatTheyFind }
+{}
+
+/// A mutator that tells no names makes the steps of one that does, but for the look at the header of what was loaded or swapped out. It takes
+/// the same orders, and what holds of the one holds of the other.
+pub fn mutators_may_tell_no_names()
+    ensures steps { MutatorsStepWithoutNames }
+    ensures orders { MutatorsTakeOrdersWithoutNames }
+    ensures sound { MutatorsAreSoWithoutNames }
 {}

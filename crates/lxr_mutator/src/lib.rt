@@ -12,9 +12,10 @@ mod operating;
 mod phases;
 
 pub use laws::{
-    causes_end_units, mutators_draw_by_rule, mutators_give_up_by_rules, mutators_stay_so,
-    mutators_step_by_rule, mutators_take_orders_by_rule, swaps_and_adds_tell_what_they_find,
-    units_are_short, units_end_by_rules,
+    causes_end_units, mutators_draw_by_rule, mutators_give_up_by_rules, mutators_may_tell_no_names,
+    mutators_stay_so, mutators_step_by_rule, mutators_take_orders_by_rule,
+    swaps_and_adds_tell_what_they_find, units_are_short, units_end_by_rules,
 };
 pub use mutator::Mutator;
+pub use operating::UNNAMED;
 pub use phases::{MutEnd, MutTally, MutatorPhase, Stop, Waiting};

@@ -35,6 +35,7 @@ pub struct Mutator {
     agenda: Agenda,
     regions: Regions,
     every: u32,
+    names: bool,
     log: Log,
     registers: [Place; 16],
     spans: Spans,
@@ -62,7 +63,8 @@ impl Model for Mutator {
 
 impl Mutator {
     /// The mutator of a thread of a script, with all its operations, which do not name the end, in a space of these limits. It does at
-    /// most `every` operations in an epoch. It takes the memory for its log and all replies, which it keeps, and has no room for orders.
+    /// most `every` operations in an epoch, and tells names. It takes the memory for its log and all replies, which it keeps, and has no
+    /// room for orders.
     pub fn new(
         alloc: Global,
         thread: u8,
@@ -78,24 +80,26 @@ impl Mutator {
         ensures { IfOk result (λ m. m ≡ first thread operations.items limits every) }
     {
         let agenda = Agenda::of_script(alloc, operations)?;
-        Mutator::with_agenda(alloc, thread, agenda, limits, every)
+        Mutator::with_agenda(alloc, thread, agenda, limits, every, true)
     }
 
     /// The mutator of a thread that is yet to be ordered its operations, at most 67,108,864, in a space of these limits. It does at most
-    /// `every` operations in an epoch. It takes the memory for its log, and keeps of its operations and replies the one at hand and the
-    /// newest. A turn with nothing ordered is the thread's end.
+    /// `every` operations in an epoch, and tells the names of what it loads and swaps out, by a look at their headers, where `names` is
+    /// true. It takes the memory for its log, and keeps of its operations and replies the one at hand and the newest. A turn with nothing
+    /// ordered is the thread's end.
     pub fn live(
         alloc: Global,
         thread: u8,
         limits: Limits,
         every: u32,
+        names: bool,
     ) -> Result<Mutator, AllocError>
         requires limits { AreLimits limits }
         requires thread { (1 ≤ thread) × (thread ≤ limits.threads) }
         requires every { (1 ≤ every) × (every ≤ 1048576) }
-        ensures { IfOk result (λ m. m ≡ first_live thread limits every) }
+        ensures { IfOk result (λ m. m ≡ first_live thread limits every names) }
     {
-        Mutator::with_agenda(alloc, thread, Agenda::live(), limits, every)
+        Mutator::with_agenda(alloc, thread, Agenda::live(), limits, every, names)
     }
 
     /// The mutator of a thread with this agenda, as it is made.
@@ -105,6 +109,7 @@ impl Mutator {
         agenda: Agenda,
         limits: Limits,
         every: u32,
+        names: bool,
     ) -> Result<Mutator, AllocError>
         requires limits { AreLimits limits }
         requires thread { (1 ≤ thread) × (thread ≤ limits.threads) }
@@ -112,7 +117,7 @@ impl Mutator {
         requires few { length agenda.operations ≤ MOST_OPERATIONS }
         requires begins { (agenda.replies.items ≡ []) × (length agenda.operations + 1 ≤ agenda.replies.room) }
         requires every { (1 ≤ every) × (every ≤ 1048576) }
-        ensures { IfOk result (λ m. m ≡ first_with thread agenda limits every) }
+        ensures { IfOk result (λ m. m ≡ first_with thread agenda limits every names) }
     {
         let log = Log::new(alloc, limits.log)?;
         Ok(Mutator {
@@ -120,6 +125,7 @@ impl Mutator {
             agenda,
             regions: regions(limits),
             every,
+            names,
             log,
             registers: [Place::NIL; 16],
             spans: no_spans(),

@@ -7,6 +7,12 @@ ghost use Rattle.lxr_mutator.specs.Operating.{asked_reply, dest_of, found_reply,
 use lxr_graph::{Op, Reply};
 use lxr_layout::{Name, Shape};
 
+/// A name that no object has: it stands in a reply for one that isn't looked up.
+pub const UNNAMED: Name = Name {
+    thread: 1,
+    serial: 0,
+};
+
 /// The register that gets what `new` makes, `load` loads or `swap` swaps out; 0 for all else.
 #[inline(always)]
 pub fn dest_of(op: Op) -> u8

@@ -5,3 +5,4 @@ pub mod Settling
 pub mod Tracing
 pub mod Opened
 pub mod Relocating
+pub mod Telling

@@ -35,6 +35,29 @@ map_on : (f g : Name → Name) (ns : List Name) → ((n : Name) → IsTrue (has 
 map_on f g [] same = refl
 map_on f g (m ∷ ms) same = λ i. same m (first_has m ms) i ∷ map_on f g ms (λ n h. same n (later_has m ms n h)) i
 
+-- ---- the world first
+
+-- nothing comes before the world
+world_first : (n : Name) → name_order n world_name ≡ Less → ⊥
+world_first n h = grind (arith, nat_tests)
+
+-- so it isn't among names that come after another
+after_first : (m : Name) (ms : List Name) → AllByRecursion (λ q. name_order m q ≡ Less) ms → IsTrue (has ms world_name) → ⊥
+after_first m [] all h = absurd (cc)
+after_first m (q ∷ qs) all h = elim (has_split q qs world_name h) [
+  | inl e ↦ world_first m (subst (λ z. name_order m z ≡ Less) (sym e) all.0)
+  | inr k ↦ after_first m qs all.1 k
+]
+
+-- names in order that have the world begin with it
+pub begins_with_world : (us : List Name) → AreInOrder us → IsTrue (has us world_name) → (ns : List Name) × (us ≡ world_name ∷ ns)
+unfolding IsStrictlySortedBy
+begins_with_world [] order h = absurd (cc)
+begins_with_world (m ∷ ms) order h = elim (has_split m ms world_name h) [
+  | inl e ↦ (ms, ap (λ z. z ∷ ms) (sym e))
+  | inr k ↦ absurd (after_first m ms order.0 k)
+]
+
 -- ---- names by number
 
 -- as many names as there are in a list, with the serials behind a number

@@ -1,5 +1,4 @@
 pub mod ResultLemmas
-pub mod TracerLemmas
 pub mod HelperLemmas
 pub mod EndedLemmas
 pub mod FewLemmas

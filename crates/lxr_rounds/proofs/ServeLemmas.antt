@@ -1,11 +1,15 @@
 -- What comes of a call of serving in the loop over it: where the call ends at a `new` that finds no room, a collecting pause is due, behind
 -- which the next call begins; else all are answered.
-use Rattle.std.proofs.Common.{◌≡◌, ◌↔◌, IsTrue, ℕ, ◌+◌, ◌*◌, ◌<◌, ◌≤◌, refl, sym, ap, subst, ◌∙◌, ⊎_elim, arith, Bool, true, false, List, ◌∷◌, cond}
+use Rattle.std.proofs.Common.{◌≡◌, ◌↔◌, IsTrue, ℕ, ◌+◌, ◌*◌, ◌<◌, ◌≤◌, refl, sym, ap, subst, ◌∙◌, ⊎_elim, inl, inr, arith, Bool, true, false, List, ◌∷◌, cond, length}
 use Rattle.std.specs.Prelude.{Option}
+use Rattle.lxr_layout.specs.declared.Name.{Name}
+use Rattle.lxr_layout.specs.declared.Place.{Place}
+use Rattle.lxr_layout.specs.declared.Shape.{Shape}
 use Rattle.lxr_graph.specs.History.{Item, Pause, PauseReport, report_of}
 use Rattle.lxr_image.specs.declared.space.Space.{Space}
+use Rattle.lxr_blocks.specs.Placing.{IsPlaced}
 use Rattle.lxr_invariant.specs.AbstractState.{AbstractState}
-use Rattle.lxr_mutator.specs.Mutating.{Mutating}
+use Rattle.lxr_mutator.specs.Mutating.{Mutating, next_name}
 use Rattle.lxr_core.specs.declared.actors.AnyActor.{AnyActor}
 use Rattle.lxr_model.specs.Kinds.{MustCollect}
 use Rattle.lxr_model.specs.Moments.{Moment, moment}
@@ -107,6 +111,33 @@ pub all_of_it : (result : Served) (collected : Bool) (mutators mutators' : List 
     → AnswersAll collected mutators mutators' space space' h h'
 all_of_it outcome.All collected mutators mutators' space space' h h' other answers = answers
 all_of_it outcome.Collect collected mutators mutators' space space' h h' other answers = absurd (other refl)
+
+-- ---- reports
+
+-- an object that is placed leaves the report
+placed_report : (before after : Space) (n : Name) (s : Shape) (p : Place) → IsPlaced before after n s p → after.report ≡ before.report
+placed_report before after n s p (inl placed) = ap (λ (x : Space). x.report) placed.changes.rest
+placed_report before after n s p (inr (run, placed)) = ap (λ (x : Space). x.report) placed.changes.rest
+
+-- a turn leaves it
+turn_report : (collected : Bool) (t : ℕ) (m m' : Mutating) (space space' : Space) (served served' : Bool) (h h' : List Item) → TakesTurn collected t m m' space space' served served' h h' → space'.report ≡ space.report
+turn_report collected t m m' space space' served served' h h' (passes same same_space same_served same_h idle) = refl
+turn_report collected t m m' space space' served served' h h' (serves a b w from to was k waits makes) =
+    ap (λ (x : Space). x.report) makes.counted ∙ ap (λ (x : Space). x.report) makes.served.held
+    ∙ placed_report space makes.served.middle (next_name m) w.shape makes.place makes.served.placed
+turn_report collected t m m' space space' served served' h h' (refuses a b w from to k waits stands refused) = ap (λ (x : Space). x.report) refused.space
+
+-- so turns do
+turns_report : (collected : Bool) (mutators : List Mutating) (space : Space) (h : List Item) (n : ℕ) (now : List Mutating) (amid : Space) (served : Bool) (k : List Item) → TakeTurns collected mutators space h n now amid served k
+    → amid.report ≡ space.report
+turns_report collected mutators space h n now amid served k (begins) = refl
+turns_report collected mutators space h n now amid served k (next i later from to was is l l' m m' turns at taken) =
+    turn_report collected (i + 1) m m' from to was is l l' taken ∙ turns_report collected mutators space h i later from was l turns
+
+-- and a call does, however it ends
+pub answers_report : (result : Served) (collected : Bool) (mutators mutators' : List Mutating) (space space' : Space) (h h' : List Item) → Answers result collected mutators mutators' space space' h h' → space'.report ≡ space.report
+answers_report outcome.All collected mutators mutators' space space' h h' were = turns_report collected mutators space h (length mutators) mutators' space' were.served h' were.turns
+answers_report outcome.Collect collected mutators mutators' space space' h h' were = turns_report collected mutators space h were.number mutators' space' were.served h' were.turns
 
 -- ---- pauses
 

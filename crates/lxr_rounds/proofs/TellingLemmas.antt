@@ -1,5 +1,5 @@
 -- A pause behind which counts are told is the pause that it was, and so is the run that made it. What is told is what the pause counted.
-use Rattle.std.proofs.Common.{◌≡◌, ℕ, sym, ap, subst, Bool, IsTrue, List}
+use Rattle.std.proofs.Common.{◌≡◌, ℕ, refl, sym, ap, subst, ◌∙◌, Bool, true, false, IsTrue, List, []}
 use Rattle.std.specs.Prelude.{Option}
 use Rattle.lxr_layout.specs.declared.Name.{Name}
 use Rattle.lxr_graph.specs.declared.report.Count.{Count}
@@ -15,6 +15,7 @@ use Rattle.lxr_pause_queue.specs.Entries.{with_told}
 use Rattle.lxr_one_pause.specs.declared.Ask.{Ask}
 use Rattle.lxr_one_pause.specs.declared.Pace.{Pace}
 use Rattle.lxr_one_pause.specs.Pausing.{CanPause, Pauses}
+use Rattle.lxr_one_pause.specs.Telling.{TellsWanted}
 use Rattle.lxr_one_pause.proofs.TellingLemmas.{pauses_told, quiescent_told, safepoint_told, told_behind}
 use Rattle.lxr_sights.specs.Sights.{Sight}
 use Rattle.lxr_rounds_invariant.specs.LoopInvariant.{HasCome, IsPaused, Task}
@@ -58,12 +59,24 @@ module _ (before amid after : Space) (alone : after ≡ with_told amid after.rep
 
 -- ---- what is told
 
--- the counts of a pause that drained are told where they are wanted
+-- the counts of a pause are told where they are wanted, and these are of pauses that drain
 pub counts_told : (before amid after : Space) (g : AbstractState) (asked : Ask) (pace : Pace) (wants : Kind → Bool) → CanPause (with_logs_counted before) g → MakesPause asked pace before amid
     → after ≡ with_told amid after.report.told.items → (IsTrue (wants amid.report.kind) → (m : Moment) (at : Name → ℕ) → HoldsMoment amid m at → ListsCounts amid after m at)
-    → IsTrue (wants after.report.kind) → IsTrue (is_draining after.report.kind) → HasToldCounts after.report
-counts_told before amid after g asked pace wants can makes alone tells wanted drains =
+    → (IsTrue (wants amid.report.kind) → IsTrue (is_draining amid.report.kind)) → IsTrue (wants after.report.kind) → HasToldCounts after.report
+counts_told before amid after g asked pace wants can makes alone tells drains wanted =
     let (at', pauses) = makes g can in
     let same : after.report.kind ≡ amid.report.kind = ap (λ (s : Space). s.report.kind) alone in
+    let was = subst (λ k. IsTrue (wants k)) same wanted in
     let left : Moment = (paused g at' (report_of amid.report)).moment in
-    told_behind (with_logs_counted before) amid g at' asked pace pauses (subst (λ k. IsTrue (is_draining k)) same drains) after (tells (subst (λ k. IsTrue (wants k)) same wanted) left at' pauses.between.safepoint.holds)
+    told_behind (with_logs_counted before) amid g at' asked pace pauses (drains was) after (tells was left at' pauses.between.safepoint.holds)
+
+-- and else none are
+pub tells_wanted : (amid after : Space) (wants : Kind → Bool) → after ≡ with_told amid after.report.told.items → amid.report.told.items ≡ [] → (wants amid.report.kind ≡ false → after ≡ amid)
+    → (IsTrue (wants after.report.kind) → HasToldCounts after.report) → TellsWanted (wants after.report.kind) after.report
+tells_wanted amid after wants alone untold quiet told = by (wants after.report.kind) refl
+  where
+    by : (b : Bool) → wants after.report.kind ≡ b → TellsWanted b after.report
+    by true e = told e
+    by false e =
+        let same : after.report.kind ≡ amid.report.kind = ap (λ (s : Space). s.report.kind) alone in
+        ap (λ (s : Space). s.report.told.items) (quiet (ap wants (sym same) ∙ e)) ∙ untold

@@ -34,6 +34,7 @@ pub record HasComeToPause (asked : Ask) (pace : Pace) (task : Task) (space : Spa
   pub right : IsAskedRight task h asked
   pub paced : pace_of task.plan ≡ pace
 
+-- some rounds at this pace have
 abbrev pub SomePauseIsDue : Ask → Pace → Space → Option (List Sight) → Type 0
 SomePauseIsDue asked pace space seen = (task : Task) × (h : List Item) × (g : AbstractState) × HasComeToPause asked pace task space seen h g
 

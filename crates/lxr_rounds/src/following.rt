@@ -2,6 +2,7 @@
 ghost use Rattle.std.specs.Prelude.{◌≡◌, ◌↔◌, ◌||◌, IfErr, IfOk, IsTrue, OnOk};
 ghost use Rattle.std.specs.List.{All, list_any};
 ghost use Rattle.lxr_one_pause.specs.Deciding.{IsPace};
+ghost use Rattle.lxr_one_pause.specs.Telling.{TellsWanted};
 ghost use Rattle.lxr_rounds_invariant.specs.LoopInvariant.{asked_by};
 ghost use Rattle.lxr_rounds.specs.Ending.{NoneGoesOn, actor_collected};
 ghost use Rattle.lxr_rounds.specs.Following.{CutsOffEach, FollowsEach, SomeHasRunEpoch};
@@ -21,11 +22,9 @@ use lxr_sights::Watch;
 fn has_ended(actor: &AnyActor) -> bool
     ensures { IsTrue result ↔ NoneGoesOn actor.now }
 {
-    match actor {
-        AnyActor::Mutator(mutator) => matches!(mutator.ended(), Some(MutEnd::Ended)),
-        AnyActor::Decrementer(_) => true,
-        AnyActor::Tracer(_) => true,
-    }
+    actor
+        .mutator()
+        .is_none_or(|mutator| matches!(mutator.ended(), Some(MutEnd::Ended)))
 }
 
 /// Whether each thread has done its end.
@@ -39,11 +38,9 @@ fn have_ended(actors: &[AnyActor]) -> bool
 fn has_collected(actor: &AnyActor) -> bool
     ensures { result ≡ actor_collected actor.now }
 {
-    match actor {
-        AnyActor::Mutator(mutator) => mutator.has_collected(),
-        AnyActor::Decrementer(_) => false,
-        AnyActor::Tracer(_) => false,
-    }
+    actor
+        .mutator()
+        .is_some_and(|mutator| mutator.has_collected())
 }
 
 /// Whether some thread has.
@@ -74,7 +71,8 @@ fn ask_of(collects: bool) -> Ask
 
 /// Makes the pause behind an epoch, at which the watch looks right before and right after it, and of whose report the observer is told.
 /// Where not all threads have ended, waiting `new`s are served or refused, with more pauses where they need room, and free lines and
-/// blocks are listed for the next epoch. Whether all have. It takes no memory, and fails where the observer does.
+/// blocks are listed for the next epoch. The last report lists counts where the observer wants them, and else none. Whether all have. It
+/// takes no memory, and fails where the observer does.
 pub fn follow_epoch<W: Watch, S, O: Observer<S>>(
     space: &mut Space,
     actors: &mut Vec<AnyActor>,
@@ -88,6 +86,7 @@ pub fn follow_epoch<W: Watch, S, O: Observer<S>>(
     requires room { O.has_room observer.old space.old.pauses }
     ensures ok { IfOk result (λ ended. FollowsEach (λ h h'. Tells O.began O.served O.told observer.old output.old h observer.new output.new h') pace space.old (W.seen watch.old) actors.old.items space.new (W.seen watch.new) actors.new.items ended) }
     ensures room { OnOk result (O.has_room observer.new space.new.pauses) }
+    ensures listed { TellsWanted (O.wants observer.old space.new.report.kind) space.new.report }
     ensures err { IfErr result (λ why. CutsOffEach (λ h k report. Fails O.began O.served O.told O.failed observer.old output.old h why output.new k report) pace space.old (W.seen watch.old) actors.old.items space.new (W.seen watch.new)) }
 {
     let ended = have_ended(actors);

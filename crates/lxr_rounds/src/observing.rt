@@ -15,7 +15,7 @@ pub trait Observer<Output> {
     /// Why it can't go on.
     type Error;
 
-    /// Whether it wants the counts of a pause of this kind listed in the report.
+    /// Whether it wants the counts of a pause of this kind listed in the report: of a plain one it wants none, and what it wants stays.
     ghost wants: { Self → KindOf → Bool };
 
     /// It has room for the next report where so many pauses were made.
@@ -35,25 +35,29 @@ pub trait Observer<Output> {
 
     /// Whether it wants the counts of a pause of this kind listed.
     fn wants_counts(&self, kind: Kind) -> bool
-        ensures { result ≡ wants self.now kind };
+        ensures wants { result ≡ wants self.now kind }
+        ensures drains { IsTrue result → IsTrue (is_draining kind) };
 
     /// Called before the `new`s that wait are served or refused.
     fn before_serving(&mut self, actors: &[AnyActor])
         ensures began { began self.old actors.now self.new }
-        ensures room { (pauses : ℕ) → has_room self.old pauses → has_room self.new pauses };
+        ensures room { (pauses : ℕ) → has_room self.old pauses → has_room self.new pauses }
+        ensures wants { (kind : KindOf) → wants self.new kind ≡ wants self.old kind };
 
     /// Called after some of them were, in order of threads; of the actors the first `threads` are mutators.
     fn after_serving(&mut self, actors: &[AnyActor], threads: u8)
         ensures served { served self.old threads actors.now self.new }
-        ensures room { (pauses : ℕ) → has_room self.old pauses → has_room self.new pauses };
+        ensures room { (pauses : ℕ) → has_room self.old pauses → has_room self.new pauses }
+        ensures wants { (kind : KindOf) → wants self.new kind ≡ wants self.old kind };
 
     /// Called after each pause, with its report; its counts are listed where they are wanted.
     fn after_pause(&mut self, report: &Report, output: &mut Output) -> Result<(), Self::Error>
-        requires counts { IsTrue (wants self.old report.now.kind) → IsTrue (is_draining report.now.kind) → HasToldCounts report.now }
+        requires counts { IsTrue (wants self.old report.now.kind) → HasToldCounts report.now }
         requires next { (pauses : ℕ) × IsNextReport pauses (report_of report.now) × has_room self.old pauses }
         ensures told { OnOk result (told self.old output.old (report_of report.now) self.new output.new) }
         ensures room { OnOk result (has_room self.new report.now.number) }
-        ensures failed { IfErr result (λ why. failed self.old output.old (report_of report.now) why output.new) };
+        ensures failed { IfErr result (λ why. failed self.old output.old (report_of report.now) why output.new) }
+        ensures wants { (kind : KindOf) → wants self.new kind ≡ wants self.old kind };
 }
 
 /// The observer that does nothing, and never fails.

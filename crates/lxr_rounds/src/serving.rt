@@ -2,8 +2,10 @@
 ghost use Rattle.std.specs.Prelude.{◌≡◌, ℕ, ◌+◌, ◌*◌, ◌≤◌, IfErr, List, OnOk};
 ghost use Rattle.lxr_core.specs.Actors.{mutators_in};
 ghost use Rattle.lxr_graph.specs.History.{Item};
+ghost use Rattle.lxr_graph.specs.declared.report.Kind.{Kind as KindOf};
 ghost use Rattle.lxr_invariant.specs.AbstractState.{AbstractState};
 ghost use Rattle.lxr_one_pause.specs.Deciding.{IsPace};
+ghost use Rattle.lxr_one_pause.specs.Telling.{TellsWanted};
 ghost use Rattle.lxr_serve.specs.Answering.{Answers};
 ghost use Rattle.lxr_serve.specs.Serving.{CanServe, HasServed, KeepsHelpers};
 ghost use Rattle.lxr_rounds_invariant.specs.LoopInvariant.{done_of};
@@ -31,6 +33,8 @@ fn serve_and_tell<S, O: Observer<S>>(
     ensures helpers { KeepsHelpers actors.old actors.new }
     ensures told { (amid : O) × O.began observer.old actors.old amid × O.served amid space.old.limits.threads actors.new observer.new }
     ensures room { (pauses : ℕ) → O.has_room observer.old pauses → O.has_room observer.new pauses }
+    ensures wants { (kind : KindOf) → O.wants observer.new kind ≡ O.wants observer.old kind }
+    ensures report { space.new.report ≡ space.old.report }
 {
     observer.before_serving(actors);
     let threads = space.limits.threads;
@@ -40,7 +44,8 @@ fn serve_and_tell<S, O: Observer<S>>(
 }
 
 /// Serves or refuses the `new`s that wait right behind a pause, which may have collected. Where there is no room for one of them, and
-/// it may not be refused yet, a collecting pause is made for it, and it comes first behind that pause.
+/// it may not be refused yet, a collecting pause is made for it, and it comes first behind that pause. The last report lists counts where
+/// the observer wants them, and else none.
 pub(crate) fn answer_waiting<W: Watch, S, O: Observer<S>>(
     space: &mut Space,
     actors: &mut [AnyActor],
@@ -54,9 +59,11 @@ pub(crate) fn answer_waiting<W: Watch, S, O: Observer<S>>(
     requires serving { CanServeAll pace space.old (W.seen watch.old) collected actors.old }
     requires room { O.has_room observer.old space.old.pauses }
     requires few { space.old.pauses ≤ 2 * done_of (mutators_in actors.old) + 1 }
+    requires listed { TellsWanted (O.wants observer.old space.old.report.kind) space.old.report }
     ensures ok { OnOk result (AllAreAnswered (λ h h'. Tells O.began O.served O.told observer.old output.old h observer.new output.new h') pace space.old (W.seen watch.old) collected (mutators_in actors.old) space.new (W.seen watch.new) (mutators_in actors.new)) }
     ensures room { OnOk result (O.has_room observer.new space.new.pauses) }
     ensures helpers { OnOk result (KeepsHelpers actors.old actors.new) }
+    ensures listed { TellsWanted (O.wants observer.old space.new.report.kind) space.new.report }
     ensures err { IfErr result (λ why. AllAreCutOff (λ h k report. Fails O.began O.served O.told O.failed observer.old output.old h why output.new k report) pace space.old (W.seen watch.old) collected (mutators_in actors.old) space.new (W.seen watch.new)) }
 {
     let mut collected = collected;

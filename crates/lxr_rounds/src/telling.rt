@@ -1,7 +1,8 @@
 //! The counts of a pause, told where an observer wants them.
-ghost use Rattle.std.specs.Prelude.{◌≡◌, ℕ, IsTrue};
+ghost use Rattle.std.specs.Prelude.{◌≡◌, ℕ, IsTrue, false};
 ghost use Rattle.lxr_layout.specs.declared.Name.{Name};
 ghost use Rattle.lxr_model.specs.Moments.{Moment};
+ghost use Rattle.lxr_model.specs.Reports.{is_draining};
 ghost use Rattle.lxr_invariant.specs.Quiescent.{HoldsMoment};
 ghost use Rattle.lxr_pause_queue.specs.Counting.{ListsCounts};
 ghost use Rattle.lxr_pause_queue.specs.Entries.{with_told};
@@ -10,10 +11,12 @@ use crate::observing::Observer;
 use lxr_image::Space;
 use lxr_pause_queue::tell_counts;
 
-/// Lists the counts of the pause that was just made, where the observer wants them. It takes no memory.
+/// Lists the counts of the pause that was just made, where the observer wants them, and else does nothing. It takes no memory.
 pub(crate) fn tell_where_wanted<S, O: Observer<S>>(space: &mut Space, observer: &O)
     requires { (m : Moment) × (at : Name → ℕ) × HoldsMoment space.old m at }
     ensures told { IsTrue (O.wants observer.now space.old.report.kind) → (m : Moment) (at : Name → ℕ) → HoldsMoment space.old m at → ListsCounts space.old space.new m at }
+    ensures quiet { O.wants observer.now space.old.report.kind ≡ false → space.new ≡ space.old }
+    ensures drains { IsTrue (O.wants observer.now space.old.report.kind) → IsTrue (is_draining space.old.report.kind) }
     ensures rest { space.new ≡ with_told space.old space.new.report.told.items }
 {
     if observer.wants_counts(space.report.kind) {

@@ -186,7 +186,7 @@ was_early renews plan script (Call t o r ∷ h) more = was_early renews plan scr
 
 -- where all threads have ended, the next pause makes it whole
 pub history_whole : (renews : Bool) (plan : Plan) (script : Script) (h : List Item) (report : PauseReport) → IsHistorySoFar (script_terms_with renews plan script) script (Pause report ∷ h)
-    → HasEnded plan script h → IsHistoryWith renews plan script (Pause report ∷ h)
+    → HasEnded script h → IsHistoryWith renews plan script (Pause report ∷ h)
 history_whole renews plan script h report (legal, belongs) whole = record {
   legal = (legal, λ waiting. waiting.1 (inr whole.ended));
   belongs = record {

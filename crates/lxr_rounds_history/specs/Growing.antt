@@ -27,11 +27,11 @@ PausesKeepHistories = (renews : Bool) (plan : Plan) (script : Script) (h : List 
     → LastPauseWasEarly (script_terms_with renews plan script) h → IsHistorySoFar (script_terms_with renews plan script) script (Pause report ∷ h)
 
 -- all threads have done all their operations and their ends
-pub record HasEnded (plan : Plan) (script : Script) (h : List Item) : Type 0 where
+pub record HasEnded (script : Script) (h : List Item) : Type 0 where
   pub calls : (t : ℕ) → 1 ≤ t → t ≤ length script → calls_of t h ≡ operations_of script t
   pub ended : ends h ≡ length script
 
 -- then the next pause makes the history whole
 abbrev pub EndedHistoriesAreWhole : Type 0
 EndedHistoriesAreWhole = (renews : Bool) (plan : Plan) (script : Script) (h : List Item) (report : PauseReport) → IsHistorySoFar (script_terms_with renews plan script) script (Pause report ∷ h)
-    → HasEnded plan script h → IsHistoryWith renews plan script (Pause report ∷ h)
+    → HasEnded script h → IsHistoryWith renews plan script (Pause report ∷ h)

@@ -33,5 +33,5 @@ pub record IsLeftWith (plan : Plan) (threads : ℕ) (h : List Item) (space : Spa
   pub tally : HasNumbersOf threads h space.tally
 
 -- so it is with some map of places
-abbrev pub IsLeftBy : Plan → ℕ → List Item → Space → Type 0
-IsLeftBy plan threads h space = (g : AbstractState) × IsLeftWith plan threads h space g
+abbrev pub IsLeftBehind : Plan → ℕ → List Item → Space → Type 0
+IsLeftBehind plan threads h space = (g : AbstractState) × IsLeftWith plan threads h space g

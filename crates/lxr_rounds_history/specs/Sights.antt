@@ -54,6 +54,8 @@ pub record SeesPause (threads : ℕ) (h : List Item) (report : PauseReport) (saf
   pub abstract_state' : AbstractState
   pub stands' : StandsAfter threads (Pause report ∷ h) abstract_state'
   pub between : IsSightQuiescent after abstract_state'
+  -- no counts are listed yet
+  pub untold : after.told ≡ []
   pub places_are : places' ≡ abstract_state'.at
   pub unmoved : (n : Name) → IsTrue (has abstract_state.moment.unreclaimed n) → IsTrue (has abstract_state'.moment.unreclaimed n)
       → (abstract_state'.at n ≡ abstract_state.at n) ⊎ MayMove report safepoint abstract_state.at n

@@ -9,12 +9,14 @@ use Rattle.std.proofs.lemmas.Option.{get_or_from_slice_get, slice_get-map, slice
 use Rattle.lxr_alloc.specs.declared.TheConstants.{MOST_OPERATIONS}
 use Rattle.lxr_graph.specs.declared.Op.TheVariants as op
 use Rattle.lxr_graph.specs.declared.Reply.{Reply}
-use Rattle.lxr_graph.specs.History.{Item, calls_of}
+use Rattle.lxr_graph.specs.History.{Item, calls_of, replies_of}
 use Rattle.lxr_model.specs.Belongs.{Script, operations_of}
 use Rattle.lxr_model.specs.Kinds.{ends}
 use Rattle.lxr_model.specs.Legal.{IsLegalSoFar}
 use Rattle.lxr_mutator.specs.Mutating.{Mutating}
 use Rattle.lxr_mutator.specs.Mutators.{IsMutator, IsOperation, IsThrough}
+use Rattle.lxr_mutator.specs.Naming.{blank}
+use Rattle.lxr_mutator.proofs.NamingLemmas.{told_count, told_length}
 use Rattle.lxr_core_invariant.specs.ThreadStates.{all_of, is_end}
 use Rattle.lxr_core.specs.Actors.{script_of}
 use Rattle.lxr_core.specs.Resting.{RestsAfter}
@@ -107,13 +109,13 @@ module _ (task : Task) (h : List Item) (mutators : List Mutating) (legal : IsLeg
   -- as many calls are made as replies are kept
   pub calls_are_done : counted_in one h ≡ done_of mutators
   calls_are_done = all_counted one (λ a. length a.replies.items) done_of refl (λ a mutators. refl)
-      (λ i a at. calls_counted (i + 1) h ∙ ap length (have.rest.each i a at).replies)
+      (λ i a at. calls_counted (i + 1) h ∙ sym (told_length a.names (replies_of (i + 1) h)) ∙ ap length (have.rest.each i a at).replies)
 
-  -- and the replies of a kind
-  pub kind_is : (p : Reply → Bool) (F : List Mutating → ℕ) → F [] ≡ 0 → ((a : Mutating) (mutators : List Mutating) → F (a ∷ mutators) ≡ count_by p a.replies.items + F mutators)
+  -- and the replies of a kind, which they have with names and without
+  pub kind_is : (p : Reply → Bool) → ((r : Reply) → p (blank r) ≡ p r) → (F : List Mutating → ℕ) → F [] ≡ 0 → ((a : Mutating) (mutators : List Mutating) → F (a ∷ mutators) ≡ count_by p a.replies.items + F mutators)
       → counted_in (replied p) h ≡ F mutators
-  kind_is p F none more = all_counted (replied p) (λ a. count_by p a.replies.items) F none more
-      (λ i a at. replies_counted p (i + 1) h ∙ ap (count_by p) (have.rest.each i a at).replies)
+  kind_is p same F none more = all_counted (replied p) (λ a. count_by p a.replies.items) F none more
+      (λ i a at. replies_counted p (i + 1) h ∙ sym (told_count p same a.names (replies_of (i + 1) h)) ∙ ap (count_by p) (have.rest.each i a at).replies)
 
   -- ---- ends
 

@@ -1,5 +1,5 @@
 -- The end of a run: its history is whole, and what it has of each thread is what its mutator keeps.
-use Rattle.std.proofs.Common.{◌≡◌, ℕ, ◌+◌, ◌∙◌, arith, List, ◌∷◌}
+use Rattle.std.proofs.Common.{◌≡◌, ℕ, ◌+◌, ◌∙◌, arith, subst, true, List, ◌∷◌}
 use Rattle.std.specs.Prelude.{Option, Some, slice_get}
 use Rattle.std.proofs.lemmas.Option.{slice_get_within}
 use Rattle.lxr_graph.specs.History.{Item, Pause, PauseReport, calls_of, replies_of}
@@ -8,6 +8,7 @@ use Rattle.lxr_invariant.specs.AbstractState.{AbstractState}
 use Rattle.lxr_sights.specs.Sights.{Sight}
 use Rattle.lxr_one_pause.specs.declared.Ask.{Ask}
 use Rattle.lxr_mutator.specs.Mutating.{Mutating}
+use Rattle.lxr_mutator.specs.Naming.{all_told_as}
 use Rattle.lxr_core_invariant.specs.ThreadStates.{all_of}
 use Rattle.lxr_core.specs.declared.actors.AnyActor.{AnyActor}
 use Rattle.lxr_core.specs.Actors.{mutators_in}
@@ -36,18 +37,18 @@ runs_end task safepoint space seen seen' before actors h g asked ran ended (repo
 
 -- ---- its threads
 
--- what a whole history has of a thread
+-- what a whole history has of a thread that tells names
 pub record HasThread (h : List Item) (t : ℕ) (a : Mutating) : Type 0 where
   pub calls : calls_of t h ≡ all_of a.operations
   pub replies : replies_of t h ≡ a.replies.items
 
 -- it has all operations and the end of each, and the replies that its mutator keeps
-pub thread_of_run : (task : Task) (space : Space) (seen : Option (List Sight)) (actors : List AnyActor) (h : List Item) → HasRunTo task space seen actors h
+pub thread_of_run : (task : Task) (space : Space) (seen : Option (List Sight)) (actors : List AnyActor) (h : List Item) → HasRunTo task space seen actors h → task.names ≡ true
     → (i : ℕ) (a : Mutating) → slice_get (mutators_in actors) i ≡ Some a → HasThread h (i + 1) a
-thread_of_run task space seen actors h run i a at =
+thread_of_run task space seen actors h run told i a at =
     let within = slice_get_within (mutators_in actors) i a at in
     let many = as_many task h (mutators_in actors) run.actors_rest.mutators in
     record {
       calls = run.history.belongs.calls (i + 1) (omega arith) (omega arith) ∙ operations_at task.script (mutators_in actors) i a run.actors_rest.mutators.script at;
-      replies = (run.actors_rest.mutators.rest.each i a at).replies;
+      replies = subst (λ b. all_told_as b (replies_of (i + 1) h) ≡ a.replies.items) (run.actors_rest.mutators.names i a at ∙ told) (run.actors_rest.mutators.rest.each i a at).replies;
     }

@@ -21,6 +21,7 @@ use Rattle.lxr_invariant.specs.AbstractState.{AbstractState}
 use Rattle.lxr_invariant.proofs.NameLemmas.{in_first}
 use Rattle.lxr_sights.specs.Sights.{Sight}
 use Rattle.lxr_mutator.specs.Mutating.{Mutating, is_loaded, is_new, is_stored}
+use Rattle.lxr_mutator.proofs.NamingLemmas.{loaded_as, new_as, stored_as}
 use Rattle.lxr_core_invariant.specs.EpochStates.{CountsObjects, Extends, called, same}
 use Rattle.lxr_core_invariant.proofs.ObjectLemmas.{legal_counts}
 use Rattle.lxr_core.specs.declared.actors.AnyActor.{AnyActor}
@@ -29,9 +30,11 @@ use Rattle.lxr_core.specs.Actors.{decrementers_in, mutators_in, script_of, trace
 use Rattle.lxr_core.specs.Closing.{Closes, HasProgress}
 use Rattle.lxr_core.specs.Collecting.{actor_given_up, loads_of, news_of, stores_of, tally_with}
 use Rattle.lxr_core.specs.Opening.{Begins}
+use Rattle.lxr_core.specs.Ordering.{TellNames}
 use Rattle.lxr_core.specs.Resting.{ActorsRestAfter, HelpersRest, RestAfter}
 use Rattle.lxr_core.specs.Executions.{Execution}
 use Rattle.lxr_core.proofs.ClosingLemmas.{given_script}
+use Rattle.lxr_core.proofs.LastingLemmas.{names_given}
 use Rattle.lxr_rounds_history.specs.Left.{last_report, plan_limits}
 use Rattle.lxr_rounds_history.specs.Histories.{plan_terms}
 use Rattle.lxr_rounds_history.specs.Sights.{SeesTo}
@@ -106,9 +109,9 @@ tally_told : (task : Task) (h k : List Item) (mutators : List Mutating) → IsHi
     → tally_with (tally_of (threads_of task) h) mutators ≡ tally_of (threads_of task) k
 tally_told task h k mutators history extends have =
     let legal = history.0 in
-    let news : (tally_of (threads_of task) k).news ≡ news_of mutators = news_are (threads_of task) k ∙ kind_is task k mutators legal have is_new news_of refl (λ a mutators. refl) in
-    let loads : (tally_of (threads_of task) k).loads ≡ loads_of mutators = loads_are (threads_of task) k ∙ kind_is task k mutators legal have is_loaded loads_of refl (λ a mutators. refl) in
-    let stores : (tally_of (threads_of task) k).stores ≡ stores_of mutators = stores_are (threads_of task) k ∙ kind_is task k mutators legal have is_stored stores_of refl (λ a mutators. refl) in
+    let news : (tally_of (threads_of task) k).news ≡ news_of mutators = news_are (threads_of task) k ∙ kind_is task k mutators legal have is_new new_as news_of refl (λ a mutators. refl) in
+    let loads : (tally_of (threads_of task) k).loads ≡ loads_of mutators = loads_are (threads_of task) k ∙ kind_is task k mutators legal have is_loaded loaded_as loads_of refl (λ a mutators. refl) in
+    let stores : (tally_of (threads_of task) k).stores ≡ stores_of mutators = stores_are (threads_of task) k ∙ kind_is task k mutators legal have is_stored stored_as stores_of refl (λ a mutators. refl) in
     sym (
     tally_extends (threads_of task) task.plan.every h k extends
     ∙ ap (λ n. sums (tally_of (threads_of task) h) n (tally_of (threads_of task) k).loads (tally_of (threads_of task) k).stores) news
@@ -192,6 +195,7 @@ module _ (task : Task) (script : Script) (space mid after : Space) (seen : Optio
     mutators = record {
       rest = subst (λ l. RestAfter l task.plan.every execution.history (mutators_in actors)) limits closes.actors_rest.mutators;
       script = ap (λ z. script_of (mutators_in z)) closes.gave ∙ given_script execution.core.actors ∙ closed.script;
+      names = subst (λ z. TellNames task.names (mutators_in z)) (sym closes.gave) (names_given task.names execution.core.actors closed.names);
     };
     helpers = subst (λ l. HelpersRest l actors) limits closes.actors_rest.helpers;
     workers = ap (λ z. length (decrementers_in z)) closes.gave ∙ ap length (given_helpers execution.core.actors) ∙ closed.workers;

@@ -1,6 +1,6 @@
 -- A run begins between two epochs, with the empty history.
 use Rattle.std.proofs.Common.{◌≡◌, ℕ, ◌+◌, ◌≤◌, refl, sym, ap, subst, ◌∙◌, arith, List, [], length}
-use Rattle.std.specs.Prelude.{Some, slice_get}
+use Rattle.std.specs.Prelude.{Bool, Some, slice_get}
 use Rattle.std.proofs.lemmas.List.{length-map}
 use Rattle.lxr_layout.specs.declared.limits.Limits.{Limits}
 use Rattle.lxr_image.specs.declared.space.Space.{Space}
@@ -14,6 +14,7 @@ use Rattle.lxr_invariant.specs.Quiescent.{IsQuiescent}
 use Rattle.lxr_invariant.specs.Listed.{FreeBlocksAreListed, IsListed}
 use Rattle.lxr_mutator.specs.Mutating.{Mutating}
 use Rattle.lxr_mutator.specs.Mutators.{IsMutator, first_of}
+use Rattle.lxr_mutator.proofs.NamingLemmas.{told_nothing}
 use Rattle.lxr_core.specs.declared.actors.AnyActor.{AnyActor}
 use Rattle.lxr_core.specs.Actors.{decrementers_in, mutators_in, script_of, tracers_in}
 use Rattle.lxr_core.specs.Resting.{HelpersRest, RestsAfter}
@@ -39,8 +40,8 @@ pub record IsOpenedFor (task : Task) (space : Space) (g : AbstractState) : Type 
   pub pauses : space.pauses ≡ 0
 
 -- a mutator as it is made rests for the empty history
-pub first_rests : (l : Limits) (every t most : ℕ) (operations : List Op) → IsMutator (first_of t operations l every most) → RestsAfter l every [] t (first_of t operations l every most)
-first_rests l every t most operations is = record {
+pub first_rests : (l : Limits) (every t most : ℕ) (names : Bool) (operations : List Op) → IsMutator (first_of t operations l every most names) → RestsAfter l every [] t (first_of t operations l every most names)
+first_rests l every t most names operations is = record {
   mutator = record { sound = is; regions = refl; steady = (λ e. absurd (cc), λ e. absurd (cc)) };
   thread = refl;
   every = refl;
@@ -48,15 +49,16 @@ first_rests l every t most operations is = record {
   spans = refl;
   rests = refl;
   calls = refl;
-  replies = refl;
+  replies = told_nothing names;
+  unnamed = λ e. refl;
   began = refl;
   ended = λ e. absurd (cc);
 }
 
--- each mutator is that of its thread as it is made, with some room
+-- each mutator is that of its thread as it is made, with some room, and tells names or not as all do
 pub record AreFirst (task : Task) (mutators : List Mutating) : Type 0 where
   pub script : script_of mutators ≡ task.script
-  pub each : (i : ℕ) (m : Mutating) → slice_get mutators i ≡ Some m → (most : ℕ) × (m ≡ first_of (i + 1) m.operations (task_limits task) task.plan.every most)
+  pub each : (i : ℕ) (m : Mutating) → slice_get mutators i ≡ Some m → (most : ℕ) × (m ≡ first_of (i + 1) m.operations (task_limits task) task.plan.every most task.names)
   pub sound : (i : ℕ) (m : Mutating) → slice_get mutators i ≡ Some m → IsMutator m
 
 -- so do all of them
@@ -67,9 +69,10 @@ first_mutators task mutators are = record {
     each = λ i m at.
         let (most, is) = are.each i m at in
         subst (RestsAfter (task_limits task) task.plan.every [] (i + 1)) (sym is)
-        (first_rests (task_limits task) task.plan.every (i + 1) most m.operations (subst IsMutator is (are.sound i m at)));
+        (first_rests (task_limits task) task.plan.every (i + 1) most task.names m.operations (subst IsMutator is (are.sound i m at)));
   };
   script = are.script;
+  names = λ i m at. ap (λ (x : Mutating). x.names) (are.each i m at).1;
 }
 
 -- and behind them stand as many decrementers as the plan asks for, and as many tracers, each as it is made

@@ -1,5 +1,5 @@
 -- What a pause does to a run: its history has the pause.
-use Rattle.std.proofs.Common.{◌≡◌, ℕ, ◌+◌, ◌*◌, ◌^◌, ◌<◌, ◌≤◌, ◌↔◌, ◌⊎◌, refl, sym, ap, subst, ◌∙◌, inl, inr, arith, List, ◌∷◌, length, Bool, true, false, IsTrue}
+use Rattle.std.proofs.Common.{◌≡◌, ℕ, ◌+◌, ◌*◌, ◌^◌, ◌<◌, ◌≤◌, ◌↔◌, ◌⊎◌, refl, sym, ap, subst, ◌∙◌, inl, inr, arith, List, [], ◌∷◌, length, Bool, true, false, IsTrue}
 use Rattle.std.specs.Prelude.{Option, None, Some, slice_get}
 use Rattle.lxr_alloc.specs.declared.TheConstants.{MOST_OPERATIONS}
 use Rattle.lxr_layout.specs.declared.TheConstants.{GRANULES_IN_BLOCK}
@@ -222,7 +222,7 @@ module _ (task : Task) (before after : Space) (seen amid seen' : Option (List Si
     kept_counted = ap (λ (t : Tally). t.kept) pauses.tally;
   }
 
-  module _ (first : Looks seen amid (sight_of (at_safepoint before))) (second : Looks amid seen' (sight_of after)) where
+  module _ (untold : after.report.told.items ≡ []) (first : Looks seen amid (sight_of (at_safepoint before))) (second : Looks amid seen' (sight_of after)) where
     sights : SeesTo (threads_of task) (Pause report ∷ h) task.seen seen' at' (evacuated_in after.tally)
     sights = sees_pause (threads_of task) h report task.seen seen amid seen' (sight_of (at_safepoint before)) (sight_of after) come.places at' come.sights first second (record {
       abstract_state = g;
@@ -232,6 +232,7 @@ module _ (task : Task) (before after : Space) (seen amid seen' : Option (List Si
       abstract_state' = abstract_state;
       stands' = stands;
       between = (after, refl, pauses.between);
+      untold = untold;
       places_are = refl;
       unmoved = λ n was stays. unmoved n was;
       evacuated = counted;
@@ -271,6 +272,7 @@ rests_paused l every h last t m rests = record {
   rests = rests.rests;
   calls = rests.calls;
   replies = rests.replies;
+  unnamed = rests.unnamed;
   began = rests.began;
   ended = rests.ended;
 }
@@ -283,6 +285,7 @@ mutators_paused task h last mutators have = record {
     each = λ i m at. rests_paused (task_limits task) task.plan.every h last (i + 1) m (have.rest.each i m at);
   };
   script = have.script;
+  names = have.names;
 }
 
 -- and all actors

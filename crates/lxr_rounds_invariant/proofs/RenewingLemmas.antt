@@ -145,7 +145,11 @@ module _ (task : Task) (space after : Space) (seen : Option (List Sight)) (actor
 
   actors_renewed : HaveActors task' (Renew ns ∷ h) actors'
   actors_renewed = record {
-    mutators = record { rest = subst (λ l. RestAfter l task.plan.every (Renew ns ∷ h) (mutators_in actors')) (sym limits_same) rest_renewed; script = refl };
+    mutators = record {
+      rest = subst (λ l. RestAfter l task.plan.every (Renew ns ∷ h) (mutators_in actors')) (sym limits_same) rest_renewed;
+      script = refl;
+      names = λ i m' at. let (m, there, is) = one_renewed ns actors actors' are i m' at in ap (λ (x : Mutating). x.names) is ∙ amid.actors_rest.mutators.names i m there;
+    };
     helpers = subst (λ l. HelpersRest l actors') (sym limits_same) helpers_renewed;
     workers = ap length are.decrementers ∙ amid.actors_rest.workers;
     tracers = ap length are.tracers ∙ amid.actors_rest.tracers;

@@ -1,6 +1,7 @@
 -- What the serving of a `new` that waits does to a run: its call joins the history, and its reply those of its mutator.
 use Rattle.std.proofs.Common.{◌≡◌, ◌≢◌, ℕ, ◌+◌, ◌<◌, ◌≤◌, refl, sym, ap, subst, ◌∙◌, arith, Bool, true, false, IsTrue, List, [], ◌∷◌, ◌++◌, length, take, nat_eq}
 use Rattle.std.specs.Prelude.{Option, Some, None, slice_get, if◌then◌else◌}
+use Rattle.std.specs.List.{count_by}
 use Rattle.std.proofs.lemmas.List.{length-take-le, length_push, take_more}
 use Rattle.std.proofs.lemmas.Bool.{eq-eqb}
 use Rattle.std.proofs.lemmas.Bool.Decides.{nat_tests}
@@ -32,8 +33,11 @@ use Rattle.lxr_sights.specs.Sights.{Sight}
 use Rattle.lxr_placing.specs.Placing.{served_abstract_state}
 use Rattle.lxr_serve.proofs.MutatorLemmas.{answered_mutator, with_registers}
 use Rattle.lxr_serve.proofs.SpaceLemmas.{IsNewServed}
-use Rattle.lxr_mutator.specs.Mutating.{IsWaiting, Mutating, next_name as next_made, op_now}
+use Rattle.lxr_mutator.specs.declared.phases.MutEnd.TheVariants as ends
+use Rattle.lxr_mutator.specs.Mutating.{IsWaiting, Mutating, is_new, next_name as next_made, op_now}
 use Rattle.lxr_mutator.specs.Mutators.{AreRegisters, answered}
+use Rattle.lxr_mutator.specs.Naming.{all_told_as, blank, told_as}
+use Rattle.lxr_mutator.proofs.NamingLemmas.{told_more, told_news, told_whole}
 use Rattle.lxr_mutator.proofs.NowLemmas.{formed_now}
 use Rattle.lxr_core_invariant.specs.ThreadStates.{all_of}
 use Rattle.lxr_core_invariant.specs.EpochStates.{objects_before}
@@ -73,9 +77,11 @@ pub named_next : (task : Task) (space : Space) (seen : Option (List Sight)) (h :
     → 1 ≤ t → t ≤ threads_of task → RestsAfter (task_limits task) task.plan.every h t m → next_name g.moment.state.graph t ≡ next_made m
 named_next task space seen h g t m come some few rests =
     let thread = rests.thread in
-    let named = named_after (threads_of task) h m (legal_counts (terms_of task) h come.history.0) (subst (λ n. m.before ≡ objects_before n h) (sym thread) rests.began) (omega (arith, thread, some)) (omega (arith, thread, few))
-    (subst (λ n. replies_of n h ≡ m.replies.items) (sym thread) rests.replies) in
-    ap (next_name g.moment.state.graph) (sym thread) ∙ ap (λ (n : Moment). next_name n.state.graph m.thread) come.stands.moment ∙ named
+    let told : Mutating = record m { replies = record m.replies { items = replies_of m.thread h } } in
+    let named = named_after (threads_of task) h told (legal_counts (terms_of task) h come.history.0) (subst (λ n. m.before ≡ objects_before n h) (sym thread) rests.began) (omega (arith, thread, some)) (omega (arith, thread, few)) refl in
+    let as_many : count_by is_new (replies_of m.thread h) ≡ count_by is_new m.replies.items =
+    sym (told_news m.names (replies_of m.thread h)) ∙ ap (count_by is_new) (subst (λ n. all_told_as m.names (replies_of n h) ≡ m.replies.items) (sym thread) rests.replies) in
+    ap (next_name g.moment.state.graph) (sym thread) ∙ ap (λ (n : Moment). next_name n.state.graph m.thread) come.stands.moment ∙ named ∙ (λ j. record { thread = m.thread; serial = m.before + as_many j + 1 })
 
 -- ---- what comes next
 
@@ -223,10 +229,10 @@ full_promise task space seen t m collected served h g dest shape may is full rep
 one_more : {X : Type 0} (xs : List X) (k : ℕ) (x : X) → slice_get xs k ≡ Some x → take (k + 1) xs ≡ take k xs ++ x ∷ []
 one_more xs k x at = take_more xs k x (slice_get_within xs k x at) ∙ ap (λ y. take k xs ++ y ∷ []) (get_or_from_slice_get xs k x x at)
 
--- a mutator whose `new` is answered rests for the history with that call
-pub rests_answered : (l : Limits) (every : ℕ) (h : List Item) (t : ℕ) (m : Mutating) (registers : List Place) (r : Reply) → RestsAfter l every h t m → IsWaiting m → AreRegisters registers
+-- a mutator whose `new` is answered, with a reply that has no name to leave out, rests for the history with that call
+pub rests_answered : (l : Limits) (every : ℕ) (h : List Item) (t : ℕ) (m : Mutating) (registers : List Place) (r : Reply) → RestsAfter l every h t m → IsWaiting m → AreRegisters registers → blank r ≡ r
     → RestsAfter l every (Call t (op_now m) r ∷ h) t (answered (with_registers m registers) r)
-rests_answered l every h t m registers r rests waits are =
+rests_answered l every h t m registers r rests waits are whole =
     let own : nat_eq t t ≡ true = eq-eqb t t refl in
     let more = rests.mutator.sound.waits waits.0 in
     let many : length (m.replies.items ++ r ∷ []) ≡ length m.replies.items + 1 = length_push m.replies.items r in
@@ -242,7 +248,12 @@ rests_answered l every h t m registers r rests waits are =
           ∙ ap (λ z. z ++ op_now m ∷ []) rests.calls
           ∙ sym (one_more (all_of m.operations) (length m.replies.items) (op_now m) (op_is_next m more))
           ∙ ap (λ n. take n (all_of m.operations)) (sym many);
-      replies = ap (λ b. if b then replies_of t h ++ r ∷ [] else replies_of t h) own ∙ ap (λ z. z ++ r ∷ []) rests.replies;
+      replies =
+          ap (λ b. all_told_as m.names (if b then replies_of t h ++ r ∷ [] else replies_of t h)) own
+          ∙ told_more m.names (replies_of t h) r
+          ∙ ap (λ z. z ++ told_as m.names r ∷ []) rests.replies
+          ∙ ap (λ x. m.replies.items ++ x ∷ []) (told_whole m.names r whole);
+      unnamed = λ none. ap (λ x. Some (ends.OpDone x)) whole;
       began = rests.began;
       ended = λ e. absurd (cc);
     }
@@ -259,7 +270,8 @@ rests_beside l every h t u m o r other rests =
       spans = rests.spans;
       rests = rests.rests;
       calls = ap (λ b. if b then calls_of u h ++ o ∷ [] else calls_of u h) unlike ∙ rests.calls;
-      replies = ap (λ b. if b then replies_of u h ++ r ∷ [] else replies_of u h) unlike ∙ rests.replies;
+      replies = ap (λ b. all_told_as m.names (if b then replies_of u h ++ r ∷ [] else replies_of u h)) unlike ∙ rests.replies;
+      unnamed = rests.unnamed;
       began = rests.began;
       ended = rests.ended;
     }

@@ -264,10 +264,13 @@ module _ (task : Task) (space space' : Space) (seen : Option (List Sight)) (befo
       as_many = length-set mutators first b ∙ serving.mutators_rest.rest.as_many;
       each = set_each mutators first b (λ i c. RestsAfter (task_limits task) task.plan.every (Call (first + 1) (op_now a) r ∷ h) (i + 1) c) within
           (subst (RestsAfter (task_limits task) task.plan.every (Call (first + 1) (op_now a) r ∷ h) (first + 1)) (sym is)
-          (rests_answered (task_limits task) task.plan.every h (first + 1) a answers.registers r (serving.mutators_rest.rest.each first a at) waits answers.are))
+          (rests_answered (task_limits task) task.plan.every h (first + 1) a answers.registers r (serving.mutators_rest.rest.each first a at) waits answers.are answers.whole))
           (λ i c other here. rests_beside (task_limits task) task.plan.every h (first + 1) (i + 1) c (op_now a) r (λ e. other (omega arith)) (serving.mutators_rest.rest.each i c here));
     };
     script = kept_put (λ (m : Mutating). m.operations) mutators first a b at (ap (λ (m : Mutating). m.operations) is) ∙ serving.mutators_rest.script;
+    names = set_each mutators first b (λ i c. c.names ≡ task.names) within
+        (ap (λ (m : Mutating). m.names) is ∙ serving.mutators_rest.names first a at)
+        (λ i c other here. serving.mutators_rest.names i c here);
   }
 
   -- one operation more is done

@@ -13,6 +13,7 @@ use Rattle.lxr_core.specs.declared.actors.AnyActor.{AnyActor}
 use Rattle.lxr_core.specs.Actors.{decrementers_in, mutators_in, script_of, tracers_in}
 use Rattle.lxr_core.specs.Closing.{Closes, IsPauseExplained}
 use Rattle.lxr_core.specs.Opening.{Begins}
+use Rattle.lxr_core.specs.Ordering.{TellNames}
 use Rattle.lxr_core.specs.Executions.{Execution}
 use Rattle.lxr_one_pause.specs.declared.Ask.{Ask}
 use Rattle.lxr_serve.specs.Serving.{KeepsHelpers}
@@ -34,6 +35,7 @@ EpochsMayOpen = (task : Task) (space : Space) (seen : Option (List Sight)) (acto
 pub record HasClosed (task : Task) (space mid after : Space) (actors : List AnyActor) (h : List Item) (g : AbstractState) (execution : Execution) : Type 0 where
   pub words : mid ≡ record space { words = mid.words }
   pub script : script_of (mutators_in execution.core.actors) ≡ task.script
+  pub names : TellNames task.names (mutators_in execution.core.actors)
   pub workers : length (decrementers_in execution.core.actors) ≡ task.plan.workers
   pub tracers : length (tracers_in execution.core.actors) ≡ task.plan.workers
   pub closes : Closes (beginning_of task space h g) execution mid after actors

@@ -21,14 +21,14 @@ use Rattle.lxr_mutator.specs.Mutating.{IsWaiting, Mutating, has_collected, op_no
 use Rattle.lxr_mutator.specs.Mutators.{IsThrough}
 use Rattle.lxr_core.specs.declared.actors.AnyActor.{AnyActor}
 use Rattle.lxr_core.specs.Actors.{decrementers_in, mutators_in, script_of, tracers_in}
-use Rattle.lxr_core.specs.Ordering.{orders_of}
+use Rattle.lxr_core.specs.Ordering.{TellNames, orders_of}
 use Rattle.lxr_core.specs.Resting.{AreServed, HelpersRest, RestAfter}
 use Rattle.lxr_one_pause.specs.declared.Ask.{Ask}
 use Rattle.lxr_one_pause.specs.declared.Ask.TheVariants as ask
 use Rattle.lxr_one_pause.specs.declared.Pace.{Pace}
 use Rattle.lxr_serve.specs.Serving.{NewsWait}
 use Rattle.lxr_rounds_history.specs.Plan.{Plan}
-use Rattle.lxr_rounds_history.specs.Left.{IsLeftBy, StandsAfter, plan_limits}
+use Rattle.lxr_rounds_history.specs.Left.{IsLeftBehind, StandsAfter, plan_limits}
 use Rattle.lxr_rounds_history.specs.Histories.{IsHistoryWith, script_terms_with}
 use Rattle.lxr_rounds_history.specs.Sights.{SamePlaces, Sees, SeesTo}
 use Rattle.lxr_rounds_history.specs.Tally.{HasNumbersOf, evacuated_in}
@@ -39,6 +39,8 @@ pub record Task : Type 0 where
   pub plan : Plan
   -- whether names may be renewed; those of scripts never are
   pub renews : Bool
+  -- whether mutators tell the names of what they load and swap out; those of scripts do
+  pub names : Bool
   pub script : Script
   pub seen : Option (List Sight)
 
@@ -84,10 +86,11 @@ pub record FitsCounts (space : Space) : Type 0 where
   pub loads : space.tally.loads < 2 ^ 63
   pub stores : space.tally.stores < 2 ^ 63
 
--- the mutators are those of the script's threads, each with what its thread was asked for, and rest for a history
+-- the mutators are those of the script's threads, each with what its thread was asked for, and rest for a history; they tell names, or none does
 pub record HaveMutators (task : Task) (h : List Item) (mutators : List Mutating) : Type 0 where
   pub rest : RestAfter (task_limits task) task.plan.every h mutators
   pub script : script_of mutators ≡ task.script
+  pub names : TellNames task.names mutators
 
 -- the mutators among the actors are those, and behind them rest as many decrementers as the plan asks for, and as many tracers:
 -- eight at most of each
@@ -221,7 +224,7 @@ pub record IsServing (task : Task) (space : Space) (seen : Option (List Sight)) 
 -- all operations and ends are done, and the last pause is made
 pub record HasRunTo (task : Task) (space : Space) (seen : Option (List Sight)) (actors : List AnyActor) (h : List Item) : Type 0 where
   pub history : IsHistoryWith task.renews task.plan task.script h
-  pub left : IsLeftBy task.plan (threads_of task) h space
+  pub left : IsLeftBehind task.plan (threads_of task) h space
   pub sights : Sees (threads_of task) h task.seen seen (evacuated_in space.tally)
   pub actors_rest : HaveActors task h actors
 

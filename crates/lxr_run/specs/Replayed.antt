@@ -5,13 +5,13 @@ use Rattle.lxr_model.specs.Belongs.{Script}
 use Rattle.lxr_words.specs.declared.Options.{Options}
 use Rattle.lxr_run_history.specs.Run.{IsHistoryOf}
 use Rattle.lxr_run_history.specs.Texts.{run_text}
-use Rattle.lxr_run_loop.specs.Tasks.{Task}
+use Rattle.lxr_run_loop.specs.Tasks.{RunTask}
 use Rattle.lxr_run_loop.specs.Drawing.{IsDrawnTo}
 use Rattle.lxr_run.specs.Runs.{IsWritten, Run}
 use Rattle.lxr_run.specs.Script.{WasAsked}
 
 -- what a run begins with, as the loop names it
-abbrev pub task_of : {I O W : Type 0} → Run I O W → Options → Script → Task
+abbrev pub task_of : {I O W : Type 0} → Run I O W → Options → Script → RunTask
 task_of run options script = record { options = options; renews = false; script = script; written = run.output.bytes run.output.before; seen = run.watch.seen run.watch.before }
 
 -- The history whose text was written is one that the epochs of the run and the pauses between them have made, from an opened space on to the

@@ -6,8 +6,8 @@
 //! text that was written is that of one legal history of the script, and the space is what that history leaves. One clause alone,
 //! `replayed`, speaks of steps: with the option `replay` the history is the one that its generator draws.
 //!
-//! A script with large objects is that of one thread, and is played by the calls of a heap in which nothing runs beside the caller. A
-//! finished output is judged by the graph alone, with no heap.
+//! A script with large objects is that of one thread, and is played by the calls of a [`LargeHeap`], in which nothing runs beside the
+//! caller. A finished output is judged by the graph alone, with no heap.
 //!
 //! While a trace runs, tracers work beside mutators and decrementers. [`one_pause`] makes a pause of the kind that its [`Ask`] and
 //! its [`Pace`] lead to: a plain one, one that begins or ends a trace, or one that collects.
@@ -32,6 +32,7 @@ mod refusal;
 mod script;
 
 use attempt::{Stop, attempt};
+pub use lxr_heap::LargeHeap;
 use lxr_image::Space;
 pub use lxr_one_pause::{Ask, Pace, one_pause};
 pub use lxr_run_replay::{order_epoch, replay_epoch};

@@ -1,17 +1,27 @@
 -- What a run of threads prints, by its command. `judge` and `large` run none, and nothing is printed of them.
-use Rattle.std.specs.Prelude.{ℕ, Bool, List, [], ◌++◌}
+use Rattle.std.specs.Prelude.{ℕ, Bool, false, not, ◌&&◌, List, [], ◌++◌}
+use Rattle.lxr_graph.specs.declared.report.Kind.{Kind}
 use Rattle.lxr_graph.specs.History.{Item, PauseReport}
 use Rattle.lxr_graph.specs.Order.{order_of}
 use Rattle.lxr_image.specs.declared.space.Space.{Space}
 use Rattle.lxr_text_print.specs.Histories.{history_text, reports_text}
 use Rattle.lxr_text_print.specs.Orders.{order_text}
-use Rattle.lxr_text_print.specs.Reports.{report_text}
+use Rattle.lxr_text_print.specs.Reports.{is_plain, report_text}
 use Rattle.lxr_text_print.specs.Summary.{summary_text}
 use Rattle.lxr_text_map.specs.Map.{map_text}
 use Rattle.lxr_words.specs.declared.Command.{Command}
 use Rattle.lxr_words.specs.declared.Command.TheVariants.{Judge, Large, Load, Map, Order, Run}
 use Rattle.lxr_words.specs.declared.Options.{Options}
 use Rattle.lxr_run_history.specs.Sums.{sums_of}
+
+-- the command prints the counts of a pause of this kind: it prints reports, the counts of pauses are asked for, and this one isn't plain
+abbrev pub prints_counts : Command → Bool → Kind → Bool
+prints_counts Run counts kind = counts && not (is_plain kind)
+prints_counts Map counts kind = counts && not (is_plain kind)
+prints_counts Order counts kind = counts && not (is_plain kind)
+prints_counts Judge counts kind = false
+prints_counts Large counts kind = false
+prints_counts (Load seed) counts kind = false
 
 -- what is printed of one pause: its report; `load` prints none
 abbrev pub told_report : Command → Bool → PauseReport → List ℕ

@@ -1,5 +1,5 @@
 -- An epoch of a run: once it is opened its actors can go on, and once they have it is closed behind a history that has more calls alone.
-use Rattle.std.proofs.Common.{◌≡◌, ℕ, refl, sym, ap, subst, ◌∙◌, arith, List, length}
+use Rattle.std.proofs.Common.{◌≡◌, ℕ, refl, sym, ap, subst, ◌∙◌, arith, true, List, length}
 use Rattle.std.specs.Prelude.{Option}
 use Rattle.std.proofs.lemmas.List.{length-map}
 use Rattle.lxr_graph.specs.History.{Item}
@@ -17,10 +17,12 @@ use Rattle.lxr_core.specs.Collecting.{actor_given_up}
 use Rattle.lxr_core.specs.Executions.{Execution, HoldsExecution, tell_all}
 use Rattle.lxr_core.specs.Filling.{unfilled}
 use Rattle.lxr_core.specs.Opening.{Opens, execution_at}
-use Rattle.lxr_core.specs.Ordering.{AreFull, KeepsScript}
+use Rattle.lxr_core.specs.Ordering.{AreFull, KeepsScript, TellNames}
 use Rattle.lxr_core.proofs.ClosingLemmas.{given_full}
+use Rattle.lxr_core.proofs.LastingLemmas.{names_opened, names_run}
 use Rattle.lxr_core.proofs.OrderLemmas.{lengths_add}
 use Rattle.lxr_core.proofs.ScriptLemmas.{opened_full, opened_script, scripts_stay}
+use Rattle.lxr_core.proofs.TracerLemmas.{tracers_run}
 use Rattle.lxr_run_replay.proofs.ClosingLemmas.{may_close}
 use Rattle.lxr_run_threads.specs.Running.{CanRun}
 use Rattle.lxr_shared.proofs.StartedLemmas.{started_helpers}
@@ -29,7 +31,7 @@ use Rattle.lxr_run_threads.proofs.OpenedLemmas.{opened_can_run}
 use Rattle.lxr_sights.specs.Sights.{Sight}
 use Rattle.lxr_words.specs.declared.Options.{Options}
 use Rattle.lxr_words.specs.Ranges.{AreInRange}
-use Rattle.lxr_run_loop.specs.Tasks.{Task, rounds_of}
+use Rattle.lxr_run_loop.specs.Tasks.{RunTask, rounds_of}
 use Rattle.lxr_rounds_invariant.specs.Laws.{beginning_of}
 use Rattle.lxr_rounds_invariant.proofs.ActorLemmas.{as_many}
 use Rattle.lxr_rounds_invariant.proofs.EpochLemmas.{epochs_run, may_open as epoch_begins}
@@ -40,11 +42,10 @@ use Rattle.lxr_run_loop.specs.Progress.{HasMadeEpochInOrder, IsBetweenRounds}
 use Rattle.lxr_run_loop.proofs.OrderLemmas.{calls_follow}
 use Rattle.lxr_run_loop.proofs.TextLemmas.{told_extends, totals_extend}
 use Rattle.lxr_run_loop.proofs.ThreadLemmas.{as_many_helpers}
-use Rattle.lxr_rounds.proofs.TracerLemmas.{tracers_run}
 
 -- ---- an epoch of a run
 
-module _ (task : Task) (space : Space) (written : Option (List ℕ)) (seen : Option (List Sight)) (actors : List AnyActor) (h : List Item) (g : AbstractState) (amid : IsBetweenRounds task space written seen actors h g)
+module _ (task : RunTask) (space : Space) (written : Option (List ℕ)) (seen : Option (List Sight)) (actors : List AnyActor) (h : List Item) (g : AbstractState) (amid : IsBetweenRounds task space written seen actors h g)
     (opened : Space) (started : List AnyActor) (opens : Opens space opened actors started) (holds : HoldsExecution (beginning_of (rounds_of task) space h g) (execution_at (beginning_of (rounds_of task) space h g) opened started)) where
   -- there are as many actors as before
   pub started_many : length started ≡ length actors
@@ -57,6 +58,10 @@ module _ (task : Task) (space : Space) (written : Option (List ℕ)) (seen : Opt
   -- and with room for no others
   started_full : AreFull (mutators_in started)
   started_full = opened_full space opened actors started opens amid.full
+
+  -- and each tells names
+  started_names : TellNames true (mutators_in started)
+  started_names = names_opened true space opened actors started opens amid.epochs.actors_rest.mutators.names
 
   same_tracers : length (tracers_in started) ≡ length (tracers_in actors)
   same_tracers = (started_helpers space.registers.items actors started opens.actors).tracers
@@ -108,6 +113,9 @@ module _ (task : Task) (space : Space) (written : Option (List ℕ)) (seen : Opt
     full_on : AreFull (mutators_in execution_on.core.actors)
     full_on = subst (λ (k : Core AnyActor). AreFull (mutators_in k.actors)) (sym (core_is ∙ on.run)) stays.full
 
+    names_on : TellNames true (mutators_in execution_on.core.actors)
+    names_on = subst (λ (k : Core AnyActor). TellNames true (mutators_in k.actors)) (sym (core_is ∙ on.run)) (names_run true (core_of opened.words started) on.events started_names)
+
     many_on : length execution_on.core.actors ≡ length actors
     many_on = ap (λ (k : Core AnyActor). length k.actors) (core_is ∙ on.run) ∙ (run-lengths any_machine (core_of opened.words started) on.events).1 ∙ started_many
 
@@ -128,6 +136,7 @@ module _ (task : Task) (space : Space) (written : Option (List ℕ)) (seen : Opt
         let (m, ran, extends) = epochs_run (rounds_of task) task.script space gone after seen actors actors' h g execution_on amid.epochs (goes_on_itself task.script) (record {
           words = words;
           script = script_on;
+          names = names_on;
           workers = workers;
           tracers = tracers_on ∙ amid.epochs.actors_rest.tracers;
           closes = closes;

@@ -31,7 +31,7 @@ use Rattle.lxr_serve.specs.declared.Served.TheVariants as outcome
 use Rattle.lxr_run_history.specs.Sums.{totals_of}
 use Rattle.lxr_rounds_history.proofs.ThreadSums.{counted_in, one}
 use Rattle.lxr_rounds_invariant.specs.LoopInvariant.{pace_of}
-use Rattle.lxr_run_loop.specs.Tasks.{Task, rounds_of}
+use Rattle.lxr_run_loop.specs.Tasks.{RunTask, rounds_of}
 use Rattle.lxr_rounds.specs.Answering.{AnswersWaiting, all, collects}
 use Rattle.lxr_run_loop.specs.Drawing.{IsDrawn, at_opening, by_answers, by_epoch, by_listing}
 
@@ -124,7 +124,7 @@ waiting_unrenewed pace collected mutators space h mutators' space' h' (all c ms 
 waiting_unrenewed pace collected mutators space h mutators' space' h' (collects c ms middle ms' s full paused s' k l k' answers makes rest) unrenewed =
     waiting_unrenewed pace true middle paused (Pause (report_of paused.report) ∷ l) mutators' space' h' rest (answers_unrenewed outcome.Collect collected mutators middle space full h l answers unrenewed)
 
-pub drawn_unrenewed : (task : Task) (h : List Item) (x : Option ℕ) (space : Space) (actors : List AnyActor) → IsDrawn task h x space actors → IsUnrenewed h
+pub drawn_unrenewed : (task : RunTask) (h : List Item) (x : Option ℕ) (space : Space) (actors : List AnyActor) → IsDrawn task h x space actors → IsUnrenewed h
 drawn_unrenewed task h x space actors (at_opening s a opened made) = tt
 drawn_unrenewed task h x space actors (by_epoch k l y y' s closed paused a a' asked drawn makes right behind) =
     subst IsUnrenewed (sym makes.history) (extends_unrenewed _ _ k _ makes.closes.extends (drawn_unrenewed task k y s a drawn))

@@ -47,7 +47,7 @@ use Rattle.lxr_run_loop.specs.Made.{AreMade, MutatorsAreMade}
 use Rattle.lxr_rounds.specs.Helpers.{HelpersStandBehind}
 use Rattle.lxr_rounds.proofs.HelperLemmas.{behind_in_order, helpers_made, pushed_at}
 use Rattle.lxr_run_loop.specs.Opening.{IsOpenedRun}
-use Rattle.lxr_run_loop.specs.Tasks.{Task, rounds_of}
+use Rattle.lxr_run_loop.specs.Tasks.{RunTask, rounds_of}
 use Rattle.lxr_run_loop.proofs.TextLemmas.{told_none}
 
 -- ---- a mutator as it is made
@@ -207,7 +207,7 @@ pub opened_run : (options : Options) (script : List (Roomy Op)) (limits : Limits
     → IsOpened space limits → IsQuiescent space (opening_abstract_state limits.threads) → IsListedWhole space → (written : Option (List ℕ)) (seen : Option (List Sight))
     → IsOpenedRun options (map (λ (x : Roomy Op). x.items) script) space written seen actors
 opened_run options script limits space actors same ranges is made opened between listed written seen =
-    let task : Task = record { options = options; renews = false; script = map (λ (x : Roomy Op). x.items) script; written = written; seen = seen } in
+    let task : RunTask = record { options = options; renews = false; script = map (λ (x : Roomy Op). x.items) script; written = written; seen = seen } in
     let many : length (map (λ (x : Roomy Op). x.items) script) ≡ length script = length-map script (λ (x : Roomy Op). x.items) in
     let of_task : limits ≡ task_limits (rounds_of task) = same ∙ ap (run_limits options) (sym many) in
     let threads : limits.threads ≡ threads_of (rounds_of task) = ap (λ (l : Limits). l.threads) of_task in

@@ -10,8 +10,9 @@ use Rattle.lxr_core.proofs.ScriptLemmas.{full_as}
 use Rattle.lxr_sights.specs.Sights.{Sight}
 use Rattle.lxr_rounds_invariant.specs.LoopInvariant.{asked_by}
 use Rattle.lxr_rounds_invariant.proofs.ActorLemmas.{left_less}
+use Rattle.lxr_run_history.specs.Left.{TellsByOptions}
 use Rattle.lxr_run_loop.specs.Courses.{AreFew}
-use Rattle.lxr_run_loop.specs.Tasks.{Task, WasCutOff, rounds_of}
+use Rattle.lxr_run_loop.specs.Tasks.{RunTask, WasCutOff, rounds_of}
 use Rattle.lxr_run_loop.specs.Telling.{CountsPlaced, FailsReport, NotesServed, StandsBehind, TellsReport}
 use Rattle.lxr_run_loop.specs.declared.course.Course.{Course}
 use Rattle.lxr_rounds_invariant.specs.LoopInvariant as rounds
@@ -41,16 +42,16 @@ pub course_is : (before after : Course) (teller : Teller) (x : Option ℕ) → b
 course_is before after teller x same is = sym (is ∙ ap (course_by teller) same)
 
 -- where the teller failed the run was cut off
-pub was_cut_off : {S : Type 0} (written : S → Option (List ℕ)) (faults : S → ℕ) (task : Task) (o : Teller) (w w' : S) (h : List Item) (why : WriteError) (space : Space) (seen : Option (List Sight))
-    → AreCutOff (λ j k report. Fails CountsPlaced NotesServed (TellsReport written faults) (FailsReport written faults) o w j why w' k report) (rounds_of task) space seen h → StandsBehind task o (written w) h
+pub was_cut_off : {S : Type 0} (written : S → Option (List ℕ)) (faults : S → ℕ) (task : RunTask) (o : Teller) (w w' : S) (h : List Item) (why : WriteError) (space : Space) (seen : Option (List Sight))
+    → AreCutOff (λ j k report. Fails CountsPlaced NotesServed (TellsReport written faults) (FailsReport written faults) o w j why w' k report) (rounds_of task) space seen h → StandsBehind task o (written w) h → TellsByOptions task.options space
     → WasCutOff task space (written w') seen
-was_cut_off written faults task o w w' h why space seen cut stands =
+was_cut_off written faults task o w w' h why space seen cut stands told =
     let come = cut.paused.come in (
       Pause cut.report ∷ cut.history,
       record {
         history = come.history;
         text_front = text_front written faults task o w w' h cut.history cut.report why cut.cut_off stands;
-        left = (cut.abstract_state, record { stands = come.stands; between = cut.paused.between; limits = come.limits; tally = come.tally });
+        left = record { left = (cut.abstract_state, record { stands = come.stands; between = cut.paused.between; limits = come.limits; tally = come.tally }); told = told };
         sights = (come.places, come.sights);
       },
     )
@@ -58,7 +59,7 @@ was_cut_off written faults task o w w' h why space seen cut stands =
 -- ---- a round
 
 -- of a run that has made an epoch
-module _ (task : Task) (space after : Space) (written : Option (List ℕ)) (seen : Option (List Sight)) (before actors : List AnyActor) (h : List Item) (g : AbstractState)
+module _ (task : RunTask) (space after : Space) (written : Option (List ℕ)) (seen : Option (List Sight)) (before actors : List AnyActor) (h : List Item) (g : AbstractState)
     (x x' : Option ℕ) (amid : IsBetweenRounds task space written seen before h g) (drawn : IsDrawn task h x space before) (made : HasMadeEpoch task space after written seen before actors h x x') where
   -- with the pause behind it the history is drawn
   drawn_on : (collects : Bool) (then : Space) (seen' : Option (List Sight)) (pause : IsFollowedByPause (rounds_of task) collects made.history after then seen') → IsDrawn task (Pause pause.report ∷ made.history) x' then actors
@@ -70,16 +71,16 @@ module _ (task : Task) (space after : Space) (written : Option (List ℕ)) (seen
   -- the other.
   pub round : (told : List Item → List Item → Type 0) (ended : Bool) (again : Space) (written' : Option (List ℕ)) (seen' : Option (List Sight)) (actors' : List AnyActor) (teller teller' : Teller)
       → HasFollowed ended told (rounds_of task) after again seen' before actors actors' made.history → StandsBehind task teller written made.history
-      → ((k : List Item) → told made.history k → StandsBehind task teller written made.history → StandsBehind task teller' written' k) → AreFew teller'.totals again.pauses
+      → ((k : List Item) → told made.history k → StandsBehind task teller written made.history → StandsBehind task teller' written' k) → AreFew teller'.totals again.pauses → TellsByOptions task.options again
       → HasMadeRound task again written' seen' before actors' (record { generator = x'; totals = teller'.totals; order = teller'.order }) ended
-  round told true again written' seen' actors' teller teller' last stands follows few =
+  round told true again written' seen' actors' teller teller' last stands follows few listed =
       let stands' = follows (Pause last.pause.report ∷ made.history) last.tells stands in
       subst (λ left. IsThere task again written' seen' before left (record { generator = x'; totals = teller'.totals; order = teller'.order })) (sym last.same)
       (record {
-        complete = (Pause last.pause.report ∷ made.history, record { rounds = last.ran; text = stands'.text }, drawn_on true again seen' last.pause, stands'.totals, stands'.order, made.full);
+        complete = (Pause last.pause.report ∷ made.history, record { rounds = last.ran; text = stands'.text; told = listed }, drawn_on true again seen' last.pause, stands'.totals, stands'.order, made.full);
         no_more = left_no_more (rounds_of task) h made.history (mutators_in before) (mutators_in actors) amid.epochs.actors_rest.mutators made.ran.actors_rest.mutators made.ran.grows;
       })
-  round told false again written' seen' actors' teller teller' next stands follows few =
+  round told false again written' seen' actors' teller teller' next stands follows few listed =
       let stands' = follows next.history next.tells stands in record {
         under_way = (
           next.history,

@@ -22,6 +22,7 @@ use Rattle.lxr_model.specs.Kinds.{MayStand, ends}
 use Rattle.lxr_model.specs.Moments.{moment, unreclaimed_after}
 use Rattle.lxr_model.specs.Reports.{AreCounts, count_entry, is_draining}
 use Rattle.lxr_mutator.specs.Mutating.{Mutating}
+use Rattle.lxr_mutator.proofs.NamingLemmas.{of_kind}
 use Rattle.lxr_core.specs.declared.actors.AnyActor.{AnyActor}
 use Rattle.lxr_core.specs.declared.actors.AnyActor.TheVariants as any
 use Rattle.lxr_core.specs.Actors.{mutators_in}
@@ -194,7 +195,7 @@ module _ (task : Task) (space : Space) (seen : Option (List Sight)) (actors : Li
 
   all_refusals : sum_by refusals_by actors ≡ fulls_in h
   all_refusals =
-      refusals_of_actors actors ∙ sym (kind_is task h (mutators_in actors) run.history.legal.0 run.actors_rest.mutators is_full refusals_of refl (λ a mutators. refl)) ∙ fulls_are h
+      refusals_of_actors actors ∙ sym (kind_is task h (mutators_in actors) run.history.legal.0 run.actors_rest.mutators is_full (of_kind is_full (λ a b. refl) (λ a b. refl)) refusals_of refl (λ a mutators. refl)) ∙ fulls_are h
 
   all_pauses : space.tally.pauses ≡ pauses_in h
   all_pauses = ap (λ (t : Tally). t.pauses) run.left.1.tally ∙ pauses_told (threads_of task) h
@@ -220,7 +221,7 @@ pub record LeavesBy (totals : Totals) (space : Space) : Type 0 where
   pub gone : totals.dead + totals.swept ≤ 1 + totals.promoted
   pub live : 1 + totals.promoted - totals.dead - totals.swept ≡ length space.report.counts.items
 
-pub leaves : (task : tasks.Task) (space : Space) (written : Option (List ℕ)) (seen : Option (List Sight)) (actors : List AnyActor) (course : Course) (totals : Totals) → course.totals ≡ totals
+pub leaves : (task : tasks.RunTask) (space : Space) (written : Option (List ℕ)) (seen : Option (List Sight)) (actors : List AnyActor) (course : Course) (totals : Totals) → course.totals ≡ totals
     → IsComplete task space written seen actors course → LeavesBy totals space
 leaves task space written seen actors course totals same (h, ran, drawn, are, noted, full) =
     subst (λ t. LeavesBy t space) (sym are ∙ same)

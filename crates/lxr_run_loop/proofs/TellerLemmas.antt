@@ -24,13 +24,13 @@ use Rattle.lxr_words.specs.declared.Command.TheVariants.{Judge, Large, Load, Map
 use Rattle.lxr_words.specs.declared.Options.{Options}
 use Rattle.lxr_run_history.specs.declared.totals.Totals.{Totals}
 use Rattle.lxr_run_history.specs.Sums.{totals_of, with_report}
-use Rattle.lxr_run_history.specs.Texts.{told_by, told_report, told_text}
+use Rattle.lxr_run_history.specs.Texts.{prints_counts, told_by, told_report, told_text}
 use Rattle.lxr_rounds.specs.Observing.{Fails, IsNextReport, Tells, WereAnswered, answers, nothing, pause}
 use Rattle.lxr_run_loop.specs.declared.teller.Teller.{Teller}
 use Rattle.lxr_run_loop.specs.Courses.{AreFew}
 use Rattle.lxr_run_loop.specs.Orders.{IsOrderOf, Notes, calls_of_first}
-use Rattle.lxr_run_loop.specs.Tasks.{Task}
-use Rattle.lxr_run_loop.specs.Telling.{CountsPlaced, FailsReport, NotesServed, StandsBehind, TellsReport, prints_counts}
+use Rattle.lxr_run_loop.specs.Tasks.{RunTask}
+use Rattle.lxr_run_loop.specs.Telling.{CountsPlaced, FailsReport, NotesServed, StandsBehind, TellsReport}
 use Rattle.lxr_run_loop.proofs.OrderLemmas.{note_follows, notes_follow, serving_notes}
 use Rattle.lxr_run_loop.proofs.TextLemmas.{told_call, told_pause}
 
@@ -100,7 +100,7 @@ answers_report command counts outcome.Collect collected mutators mutators' space
 
 -- ---- one thing that is told
 
-module _ {S : Type 0} (written : S → Option (List ℕ)) (faults : S → ℕ) (task : Task) where
+module _ {S : Type 0} (written : S → Option (List ℕ)) (faults : S → ℕ) (task : RunTask) where
   -- a report
   stands_behind_pause : (o o' : Teller) (w w' : S) (h : List Item) (report : PauseReport) → TellsReport written faults o w report o' w' → StandsBehind task o (written w) h → StandsBehind task o' (written w') (Pause report ∷ h)
   stands_behind_pause o o' w w' h report tells stands = record {
@@ -148,7 +148,7 @@ faults_on written faults o w h o' w' k (pause o1 o2 w1 w2 l report before told) 
 faults_on written faults o w h o' w' k (answers o1 o2 o3 w1 l m actors actors' space space' before begun were then) = faults_on written faults o w h o1 w1 l before
 
 -- where it failed, a prefix was written
-pub text_front : {S : Type 0} (written : S → Option (List ℕ)) (faults : S → ℕ) (task : Task) (o : Teller) (w w' : S) (h k : List Item) (report : PauseReport) (why : WriteError)
+pub text_front : {S : Type 0} (written : S → Option (List ℕ)) (faults : S → ℕ) (task : RunTask) (o : Teller) (w w' : S) (h k : List Item) (report : PauseReport) (why : WriteError)
     → Fails CountsPlaced NotesServed (TellsReport written faults) (FailsReport written faults) o w h why w' k report → StandsBehind task o (written w) h → AppendsFront task.written (written w') (told_text task.options (Pause report ∷ k))
 text_front written faults task o w w' h k report why fails stands =
     let there = stands_on written faults task o w h fails.observer fails.output k fails.tells stands in

@@ -30,7 +30,7 @@ use Rattle.lxr_rounds.specs.Serving.{BeginsServing}
 use Rattle.lxr_sights.specs.Sights.{Sight}
 use Rattle.lxr_run_loop.specs.Made.{AreMade}
 use Rattle.lxr_run_loop.specs.Orders.{NotesCalls}
-use Rattle.lxr_run_loop.specs.Tasks.{Task, rounds_of}
+use Rattle.lxr_run_loop.specs.Tasks.{RunTask, rounds_of}
 
 -- Who made each step of an epoch: where a generator had come to x, its draws, until no mutator had a next step, tracers only where a
 -- trace ran; then helpers finished their units, and the generator came to x'. Where there is no generator, threads ran as they came.
@@ -63,7 +63,7 @@ ReplaysInOrder before after actors actors' x x' order order' = GoesOnInOrder bef
 -- the operations of the task, and there are as many decrementers as its options ask for, and as many tracers. It was opened, its actors went
 -- on, the generator from x to x', and it was closed. What came in it, in this order, has led to the history h', and to this space and these
 -- actors.
-pub record MakesEpoch (task : Task) (space : Space) (actors : List AnyActor) (h : List Item) (x : Option ℕ) (closed : Space) (actors' : List AnyActor) (h' : List Item) (x' : Option ℕ) : Type 0 where
+pub record MakesEpoch (task : RunTask) (space : Space) (actors : List AnyActor) (h : List Item) (x : Option ℕ) (closed : Space) (actors' : List AnyActor) (h' : List Item) (x' : Option ℕ) : Type 0 where
   pub script : script_of (mutators_in actors) ≡ task.script
   pub workers : length (decrementers_in actors) ≡ task.options.workers
   pub tracers : length (tracers_in actors) ≡ task.options.workers
@@ -85,7 +85,7 @@ pub record MakesEpoch (task : Task) (space : Space) (actors : List AnyActor) (h 
 -- made. One pause stands behind each epoch, which collects exactly where it must; what waits is answered behind it, with more pauses where
 -- room is wanted; then runs and free blocks are listed for the next epoch. Epochs alone draw from the generator, and what one of these
 -- steps leaves is what the next one begins with.
-pub data IsDrawn (task : Task) : List Item → Option ℕ → Space → List AnyActor → Type 0 where
+pub data IsDrawn (task : RunTask) : List Item → Option ℕ → Space → List AnyActor → Type 0 where
   at_opening : (space : Space) (actors : List AnyActor) → IsOpened space (task_limits (rounds_of task)) → AreMade (task_limits (rounds_of task)) task.options.every task.options.workers task.options.workers task.script actors
       → IsDrawn task [] task.options.replay space actors
   by_epoch : (h h' : List Item) (x x' : Option ℕ) (space closed paused : Space) (actors actors' : List AnyActor) (asked : Ask) → IsDrawn task h x space actors → MakesEpoch task space actors h x closed actors' h' x'
@@ -96,5 +96,5 @@ pub data IsDrawn (task : Task) : List Item → Option ℕ → Space → List Any
   by_listing : (h : List Item) (x : Option ℕ) (space space' : Space) (actors : List AnyActor) → IsDrawn task h x space actors → ListsAll space space' → IsDrawn task h x space' actors
 
 -- so it has come to this space, whatever its actors are
-abbrev pub IsDrawnTo : Task → List Item → Option ℕ → Space → Type 0
+abbrev pub IsDrawnTo : RunTask → List Item → Option ℕ → Space → Type 0
 IsDrawnTo task h x space = (actors : List AnyActor) × IsDrawn task h x space actors

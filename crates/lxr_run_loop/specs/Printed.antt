@@ -15,7 +15,7 @@ use Rattle.lxr_run_history.specs.Texts.{run_text}
 use Rattle.lxr_rounds_history.specs.Sights.{Sees}
 use Rattle.lxr_rounds_history.specs.Tally.{evacuated_in}
 use Rattle.lxr_text_stream.specs.declared.transfer.WriteError.{WriteError}
-use Rattle.lxr_run_loop.specs.Tasks.{Task, WasStopped, threads_of}
+use Rattle.lxr_run_loop.specs.Tasks.{RunTask, WasStopped, script_threads}
 use Rattle.lxr_run_loop.specs.declared.course.Course.{Course}
 use Rattle.lxr_run_loop.specs.Drawing.{IsDrawnTo}
 use Rattle.lxr_run_loop.specs.Progress.{IsComplete}
@@ -23,36 +23,36 @@ use Rattle.lxr_run_loop.specs.Progress.{IsComplete}
 -- some run with these options is complete, its reports have these totals, and this is its order
 abbrev pub SomeIsComplete : Options → Space → Option (List ℕ) → List AnyActor → Totals → Option (List kept.Item) → Type 0
 SomeIsComplete options space written actors totals order =
-    (task : Task) × (task.options ≡ options) × (seen : Option (List Sight)) × (course : Course) × (course.totals ≡ totals) × (course.order ≡ order) × IsComplete task space written seen actors course
+    (task : RunTask) × (task.options ≡ options) × (seen : Option (List Sight)) × (course : Course) × (course.totals ≡ totals) × (course.order ≡ order) × IsComplete task space written seen actors course
 
 -- the text of a whole history was written, as the command of the run has it, which its generator has drawn where there is one
-pub record IsPrinted (task : Task) (space : Space) (written : Option (List ℕ)) (seen : Option (List Sight)) : Type 0 where
+pub record IsPrinted (task : RunTask) (space : Space) (written : Option (List ℕ)) (seen : Option (List Sight)) : Type 0 where
   pub history : List Item
   pub run : IsHistoryWith task.renews (plan_of task.options) task.script history
   pub last : Option ℕ
   pub drawn : IsDrawnTo task history last space
-  pub text : Appends task.written written (run_text task.options (threads_of task) history space)
-  pub space_left : IsLeftBy task.options (threads_of task) history space
-  pub sights : Sees (threads_of task) history task.seen seen (evacuated_in space.tally)
+  pub text : Appends task.written written (run_text task.options (script_threads task) history space)
+  pub space_left : IsLeftBy task.options (script_threads task) history space
+  pub sights : Sees (script_threads task) history task.seen seen (evacuated_in space.tally)
 
 -- a prefix of the text of a whole history was written
-pub record IsPartlyPrinted (task : Task) (space : Space) (written : Option (List ℕ)) (seen : Option (List Sight)) : Type 0 where
+pub record IsPartlyPrinted (task : RunTask) (space : Space) (written : Option (List ℕ)) (seen : Option (List Sight)) : Type 0 where
   pub history : List Item
   pub run : IsHistoryWith task.renews (plan_of task.options) task.script history
-  pub text_front : AppendsFront task.written written (run_text task.options (threads_of task) history space)
-  pub space_left : IsLeftBy task.options (threads_of task) history space
-  pub sights : Sees (threads_of task) history task.seen seen (evacuated_in space.tally)
+  pub text_front : AppendsFront task.written written (run_text task.options (script_threads task) history space)
+  pub space_left : IsLeftBy task.options (script_threads task) history space
+  pub sights : Sees (script_threads task) history task.seen seen (evacuated_in space.tally)
 
 -- the whole text of each such run was written
 abbrev pub AllArePrinted : Options → Space → Option (List ℕ) → List AnyActor → Totals → Option (List kept.Item) → Option (List ℕ) → Type 0
 AllArePrinted options space written actors totals order written' =
-    (task : Task) → task.options ≡ options → (seen : Option (List Sight)) (course : Course) → course.totals ≡ totals → course.order ≡ order → IsComplete task space written seen actors course → IsPrinted task space written' seen
+    (task : RunTask) → task.options ≡ options → (seen : Option (List Sight)) (course : Course) → course.totals ≡ totals → course.order ≡ order → IsComplete task space written seen actors course → IsPrinted task space written' seen
 
 -- a prefix of it was
 abbrev pub AllArePartlyPrinted : Options → Space → Option (List ℕ) → List AnyActor → Totals → Option (List kept.Item) → Option (List ℕ) → Type 0
 AllArePartlyPrinted options space written actors totals order written' =
-    (task : Task) → task.options ≡ options → (seen : Option (List Sight)) (course : Course) → course.totals ≡ totals → course.order ≡ order → IsComplete task space written seen actors course → IsPartlyPrinted task space written' seen
+    (task : RunTask) → task.options ≡ options → (seen : Option (List Sight)) (course : Course) → course.totals ≡ totals → course.order ≡ order → IsComplete task space written seen actors course → IsPartlyPrinted task space written' seen
 
 -- the run was stopped for this cause: at a report, at an epoch, or at what it prints last
-abbrev pub IsCutShort : WriteError → Task → Space → Option (List ℕ) → Option (List Sight) → Type 0
+abbrev pub IsCutShort : WriteError → RunTask → Space → Option (List ℕ) → Option (List Sight) → Type 0
 IsCutShort why task space written seen = WasStopped why task space written seen ⊎ IsPartlyPrinted task space written seen

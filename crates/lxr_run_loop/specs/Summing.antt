@@ -11,7 +11,7 @@ use Rattle.lxr_text_print.specs.declared.summary.Sums.{Sums}
 use Rattle.lxr_sights.specs.Sights.{Sight}
 use Rattle.lxr_run_history.specs.declared.totals.Totals.{Totals}
 use Rattle.lxr_run_history.specs.Sums.{sums_of, totals_of}
-use Rattle.lxr_run_loop.specs.Tasks.{HasRunTo, Task, threads_of}
+use Rattle.lxr_run_loop.specs.Tasks.{HasRunAndTold, RunTask, script_threads}
 use Rattle.lxr_run_loop.specs.declared.course.Course.{Course}
 use Rattle.lxr_run_loop.specs.Progress.{IsComplete}
 
@@ -44,9 +44,9 @@ KeepAll actors = (i : ℕ) (a : AnyActor) → slice_get actors i ≡ Some a → 
 
 -- some run is complete with this space and these actors, and its reports have these totals
 abbrev pub SomeHasRun : Space → List AnyActor → Totals → Type 0
-SomeHasRun space actors totals = (task : Task) × (written : Option (List ℕ)) × (seen : Option (List Sight)) × (course : Course) × (course.totals ≡ totals) × IsComplete task space written seen actors course
+SomeHasRun space actors totals = (task : RunTask) × (written : Option (List ℕ)) × (seen : Option (List Sight)) × (course : Course) × (course.totals ≡ totals) × IsComplete task space written seen actors course
 
 -- these are the sums of the history of each such run, where these are the totals of its reports
 abbrev pub AreSums : Sums → Space → List AnyActor → Totals → Type 0
-AreSums sums space actors totals = (task : Task) (written : Option (List ℕ)) (seen : Option (List Sight)) (h : List Item) → HasRunTo task space written seen actors h → totals ≡ totals_of h
-    → sums ≡ sums_of (threads_of task) h
+AreSums sums space actors totals = (task : RunTask) (written : Option (List ℕ)) (seen : Option (List Sight)) (h : List Item) → HasRunAndTold task space written seen actors h → totals ≡ totals_of h
+    → sums ≡ sums_of (script_threads task) h

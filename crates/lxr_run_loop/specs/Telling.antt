@@ -1,10 +1,8 @@
--- What a run tells of its pauses: which of them have their counts printed, and what the teller does as it is told of rounds.
-use Rattle.std.specs.Prelude.{◌≡◌, ℕ, ◌<◌, ◌≤◌, min, Bool, false, not, ◌&&◌, ⊤, Option, List, [], ◌∷◌, slice_index}
+-- What a run tells of its pauses: what the teller does as it is told of rounds.
+use Rattle.std.specs.Prelude.{◌≡◌, ℕ, ◌<◌, ◌≤◌, min, ⊤, Option, List, [], ◌∷◌, slice_index}
 use Rattle.lxr_graph.specs.declared.Item.TheVariants as item
-use Rattle.lxr_graph.specs.declared.report.Kind.{Kind}
 use Rattle.lxr_graph.specs.History.{Item, PauseReport}
 use Rattle.lxr_core.specs.declared.actors.AnyActor.{AnyActor}
-use Rattle.lxr_text_print.specs.Reports.{is_plain}
 use Rattle.lxr_text_stream.specs.Streams.{Appends, AppendsFront, Rose}
 use Rattle.lxr_text_stream.specs.declared.transfer.WriteError.{WriteError}
 use Rattle.lxr_text_stream.specs.declared.transfer.WriteError.TheVariants as error
@@ -14,16 +12,7 @@ use Rattle.lxr_run_history.specs.Sums.{totals_of, with_report}
 use Rattle.lxr_run_history.specs.Texts.{told_report}
 use Rattle.lxr_run_loop.specs.declared.teller.Teller.{Teller}
 use Rattle.lxr_run_loop.specs.Orders.{IsOrderOf, Notes, calls_of_first, placed_at}
-use Rattle.lxr_run_loop.specs.Tasks.{HasTold, Task}
-
--- the command prints the counts of a pause of this kind: it prints reports, the counts of pauses are asked for, and this one isn't plain
-abbrev pub prints_counts : Command → Bool → Kind → Bool
-prints_counts Run counts kind = counts && not (is_plain kind)
-prints_counts Map counts kind = counts && not (is_plain kind)
-prints_counts Order counts kind = counts && not (is_plain kind)
-prints_counts Judge counts kind = false
-prints_counts Large counts kind = false
-prints_counts (Load seed) counts kind = false
+use Rattle.lxr_run_loop.specs.Tasks.{HasTold, RunTask}
 
 -- these commands print nothing of a pause
 abbrev pub TellsNothing : Command → Type 0
@@ -68,7 +57,7 @@ pub record FailsReport {S : Type 0} (written : S → Option (List ℕ)) (faults 
   pub cause : why ≡ error.Fault → Rose (faults w) (faults w')
 
 -- A teller of a run stands behind this history, and so does what was written.
-pub record StandsBehind (task : Task) (o : Teller) (written : Option (List ℕ)) (h : List Item) : Type 0 where
+pub record StandsBehind (task : RunTask) (o : Teller) (written : Option (List ℕ)) (h : List Item) : Type 0 where
   pub options : o.options ≡ task.options
   pub totals : o.totals ≡ totals_of h
   pub order : IsOrderOf o.order h

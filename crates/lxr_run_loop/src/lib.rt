@@ -10,7 +10,7 @@
 ghost use Rattle.std.specs.Prelude.{◌≡◌, IfErr, OnOk};
 ghost use Rattle.lxr_text_stream.specs.Streams.{Rose};
 ghost use Rattle.lxr_words.specs.Ranges.{AreInRange};
-ghost use Rattle.lxr_run_loop.specs.Tasks.{Task};
+ghost use Rattle.lxr_run_loop.specs.Tasks.{RunTask};
 ghost use Rattle.lxr_run_loop.specs.Courses.{opening_course};
 ghost use Rattle.lxr_run_loop.specs.Progress.{IsUnderWay, SomeIsUnderWay};
 ghost use Rattle.lxr_run_loop.specs.Printed.{IsCutShort, IsPrinted};
@@ -52,8 +52,8 @@ pub fn run_and_print<R: Threads + Wait + Sync, G: Gate, W: Watch, O: Sink>(
 ) -> Result<(), WriteError>
     requires range { AreInRange options }
     requires opened { SomeIsUnderWay options space.old (O.written output.old) (W.seen watch.old) actors.items (opening_course options) }
-    ensures done { OnOk result ((task : Task) → task.options ≡ options → IsUnderWay task space.old (O.written output.old) (W.seen watch.old) actors.items (opening_course options) → IsPrinted task space.new (O.written output.new) (W.seen watch.new)) }
-    ensures cut_short { IfErr result (λ why. (task : Task) → task.options ≡ options → IsUnderWay task space.old (O.written output.old) (W.seen watch.old) actors.items (opening_course options) → IsCutShort why task space.new (O.written output.new) (W.seen watch.new)) }
+    ensures done { OnOk result ((task : RunTask) → task.options ≡ options → IsUnderWay task space.old (O.written output.old) (W.seen watch.old) actors.items (opening_course options) → IsPrinted task space.new (O.written output.new) (W.seen watch.new)) }
+    ensures cut_short { IfErr result (λ why. (task : RunTask) → task.options ≡ options → IsUnderWay task space.old (O.written output.old) (W.seen watch.old) actors.items (opening_course options) → IsCutShort why task space.new (O.written output.new) (W.seen watch.new)) }
     ensures cause { result ≡ Err WriteError.Fault → Rose (O.faults output.old) (O.faults output.new) }
 {
     let mut actors = actors;

@@ -26,15 +26,14 @@ fn print_actor<O: Sink>(actor: &AnyActor, output: &mut O) -> Result<(), WriteErr
     ensures faults { O.faults output.old ≤ O.faults output.new }
     ensures cause { result ≡ Err WriteError.Fault → Rose (O.faults output.old) (O.faults output.new) }
 {
-    match actor {
-        AnyActor::Mutator(mutator) => print_replies(
+    match actor.mutator() {
+        Some(mutator) => print_replies(
             mutator.thread(),
             mutator.operations(),
             mutator.replies(),
             output,
         ),
-        AnyActor::Decrementer(_) => Ok(()),
-        AnyActor::Tracer(_) => Ok(()),
+        None => Ok(()),
     }
 }
 
@@ -56,11 +55,9 @@ fn print_threads<O: Sink>(actors: &[AnyActor], output: &mut O) -> Result<(), Wri
 fn calls_by(actor: &AnyActor) -> u64
     ensures { result ≡ calls_by actor.now }
 {
-    match actor {
-        AnyActor::Mutator(mutator) => u64::from(mutator.operation()),
-        AnyActor::Decrementer(_) => 0,
-        AnyActor::Tracer(_) => 0,
-    }
+    actor
+        .mutator()
+        .map_or(0, |mutator| u64::from(mutator.operation()))
 }
 
 /// How many operations all threads have done, and their ends.
@@ -90,10 +87,9 @@ fn refusals_by(actor: &AnyActor) -> u64
     requires { KeepsReplies actor.now }
     ensures { result ≡ refusals_by actor.now }
 {
-    match actor {
-        AnyActor::Mutator(mutator) => count_full(mutator.replies().as_slice()) as u64,
-        AnyActor::Decrementer(_) => 0,
-        AnyActor::Tracer(_) => 0,
+    match actor.mutator() {
+        Some(mutator) => count_full(mutator.replies().as_slice()) as u64,
+        None => 0,
     }
 }
 

@@ -5,7 +5,7 @@ ghost use Rattle.lxr_run_replay.specs.Replaying.{CanBeReplayed};
 ghost use Rattle.lxr_text_stream.specs.Streams.{Rose};
 ghost use Rattle.lxr_words.specs.Ranges.{AreInRange};
 ghost use Rattle.lxr_run_threads.specs.Running.{CanRun, HasRun};
-ghost use Rattle.lxr_run_loop.specs.Tasks.{Task};
+ghost use Rattle.lxr_run_loop.specs.Tasks.{RunTask};
 ghost use Rattle.lxr_rounds_invariant.specs.LoopInvariant.{pace_of};
 ghost use Rattle.lxr_run_history.specs.Run.{plan_of};
 ghost use Rattle.lxr_run_loop.specs.Drawing.{GoesOnInOrder, ReplaysInOrder};
@@ -134,7 +134,7 @@ fn make_round<R: Threads + Wait + Sync, G: Gate, W: Watch, O: Sink>(
 ) -> Result<bool, WriteError>
     requires range { AreInRange options }
     requires under_way { SomeIsUnderWay options space.old (O.written output.old) (W.seen watch.old) actors.old.items course.old }
-    ensures ok { IfOk result (λ ended. (task : Task) → task.options ≡ options → IsUnderWay task space.old (O.written output.old) (W.seen watch.old) actors.old.items course.old
+    ensures ok { IfOk result (λ ended. (task : RunTask) → task.options ≡ options → IsUnderWay task space.old (O.written output.old) (W.seen watch.old) actors.old.items course.old
         → HasMadeRound task space.new (O.written output.new) (W.seen watch.new) actors.old.items actors.new.items course.new ended) }
     ensures err { IfErr result (λ why. IsStoppedUnderWay why options space.old (O.written output.old) (W.seen watch.old) actors.old.items course.old space.new (O.written output.new) (W.seen watch.new)) }
     ensures faults { O.faults output.old ≤ O.faults output.new }
@@ -182,7 +182,7 @@ pub(crate) fn run_threads<R: Threads + Wait + Sync, G: Gate, W: Watch, O: Sink>(
 ) -> Result<(), WriteError>
     requires range { AreInRange options }
     requires under_way { SomeIsUnderWay options space.old (O.written output.old) (W.seen watch.old) actors.old.items course.old }
-    ensures ok { OnOk result ((task : Task) → task.options ≡ options → IsUnderWay task space.old (O.written output.old) (W.seen watch.old) actors.old.items course.old
+    ensures ok { OnOk result ((task : RunTask) → task.options ≡ options → IsUnderWay task space.old (O.written output.old) (W.seen watch.old) actors.old.items course.old
         → IsComplete task space.new (O.written output.new) (W.seen watch.new) actors.new.items course.new) }
     ensures err { IfErr result (λ why. IsStoppedUnderWay why options space.old (O.written output.old) (W.seen watch.old) actors.old.items course.old space.new (O.written output.new) (W.seen watch.new)) }
     ensures faults { O.faults output.old ≤ O.faults output.new }

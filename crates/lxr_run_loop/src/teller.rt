@@ -2,10 +2,10 @@
 ghost use Rattle.std.specs.Prelude.{◌≡◌, ℕ, ◌<◌, ◌≤◌, IsOk, IsTrue, OnErr, OnOk, slice_index};
 ghost use Rattle.lxr_graph.specs.History.{HasToldCounts, report_of};
 ghost use Rattle.lxr_text_stream.specs.Streams.{Appends, AppendsFront, Rose};
-ghost use Rattle.lxr_run_history.specs.Texts.{told_report};
+ghost use Rattle.lxr_run_history.specs.Texts.{prints_counts, told_report};
 ghost use Rattle.lxr_run_loop.specs.Courses.{AreFew};
 ghost use Rattle.lxr_run_loop.specs.Orders.{placed_at};
-ghost use Rattle.lxr_run_loop.specs.Telling.{CountsPlaced, FailsReport, NotesServed, TellsNothing, TellsReport, prints_counts};
+ghost use Rattle.lxr_run_loop.specs.Telling.{CountsPlaced, FailsReport, NotesServed, TellsNothing, TellsReport};
 
 use crate::order::{Order, actor_at};
 use lxr_core::AnyActor;

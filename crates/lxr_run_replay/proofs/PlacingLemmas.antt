@@ -28,7 +28,8 @@ use Rattle.lxr_mutator.specs.declared.phases.Stop.TheVariants as stop
 use Rattle.lxr_mutator.specs.Operating.{asked_reply, dest_of, found_reply, indexed_fields, index_of}
 use Rattle.lxr_mutator.specs.Mutating.{Mutating, next_name, nil, op_now, placed_count, placed_in, register}
 use Rattle.lxr_mutator.specs.Mutators.{MayBeIn}
-use Rattle.lxr_mutator.specs.Steps.{accepts_in, after_in, based, done_with, draws_for, finished, has_room, in_current, in_overflow, is_medium, loaded, name_told, next_in, placed, reached, reaching, shape_now, shape_told, started, stored, with_register}
+use Rattle.lxr_mutator.specs.Naming.{unnamed}
+use Rattle.lxr_mutator.specs.Steps.{accepts_in, after_in, based, done_with, draws_for, finished, has_room, in_current, in_overflow, is_medium, loaded, name_told, next_in, placed, reached, reaching, referring, shape_now, shape_told, started, stored, with_register}
 use Rattle.lxr_core_sim_mutator.specs.Stepping.{stands_in}
 
 -- what a step of m in a phase has made of it
@@ -136,9 +137,13 @@ finds_base m base shape = either m (record m { phase = reaching m base shape (op
 abbrev Loads : Mutating → Mutating → Type 0
 Loads m n = (n.thread ≡ m.thread) × (n.operations ≡ m.operations) × (placed_count n ≡ length m.replies.items + 1)
 
-loads_by : (m : Mutating) (place : Place) (r : Reply) (b : Bool) → Loads m (if b then done_with m r else record m { phase = phase.Referent place })
+refers : (m : Mutating) (place : Place) (names : Bool) → Loads m (referring m names place)
+refers m place true = (refl, refl, refl)
+refers m place false = (refl, refl, done_one m (found_reply (op_now m) (Some unnamed)))
+
+loads_by : (m : Mutating) (place : Place) (r : Reply) (b : Bool) → Loads m (if b then done_with m r else referring m m.names place)
 loads_by m place r true = (refl, refl, done_one m r)
-loads_by m place r false = (refl, refl, refl)
+loads_by m place r false = refers m place m.names
 
 loads : (m : Mutating) (place : Place) → Loads m (loaded m place)
 loads m place = loads_by (with_register m (dest_of (op_now m)) place) place (found_reply (op_now m) None) (nat_eq place.0 0)

@@ -1,5 +1,5 @@
 -- A mutator whose `new` was served or refused: it is one still, and no longer waits.
-use Rattle.std.proofs.Common.{◌≡◌, ℕ, ◌+◌, refl, sym, ap, ◌∙◌, inl, inr, arith, Bool, true, false, List, [], ◌∷◌, ◌++◌, length}
+use Rattle.std.proofs.Common.{◌≡◌, ℕ, ◌+◌, refl, sym, ap, subst, ◌∙◌, inl, inr, arith, Bool, true, false, List, [], ◌∷◌, ◌++◌, length}
 use Rattle.std.specs.Prelude.{◌^◌, None, Option, Some, nat_le, slice_set, if◌then◌else◌}
 use Rattle.std.specs.List.{count_by}
 use Rattle.std.proofs.lemmas.List.Sums.{sum_by_push}
@@ -19,6 +19,7 @@ use Rattle.lxr_mutator.specs.declared.phases.MutatorPhase.TheVariants as phase
 use Rattle.lxr_mutator.specs.declared.phases.Waiting.{Waiting}
 use Rattle.lxr_mutator.specs.Mutating.{IsWaiting, Mutating, is_new, next_name, nil, op_now, rests_in, waiting_by}
 use Rattle.lxr_mutator.specs.Mutators.{AreRegisters, IsAnswered, IsHeld, IsMutator, MayBeIn, answered, held_place}
+use Rattle.lxr_mutator.specs.Naming.{blank}
 use Rattle.lxr_mutator.specs.Operating.{dest_of, shape_made}
 use Rattle.lxr_mutator.proofs.RegisterLemmas.{registers_set}
 use Rattle.lxr_core_sim_mutator.specs.Showing.{IsMutatorOf, IsSteadyIn}
@@ -85,11 +86,12 @@ answered_sound m registers r is waits are =
       phase = in_rest m (answered (with_registers m registers) r) m.phase waits.1;
     }
 
--- its registers, once its `new` is answered, are nil or places, and all else is as it is told with the reply
+-- its registers, once its `new` is answered, are nil or places, and all else is as it is told with the reply, which has no name to leave out
 pub record AnswersWith (m m' : Mutating) (r : Reply) : Type 0 where
   pub registers : List Place
   pub are : AreRegisters registers
   pub mutator : m' ≡ answered (with_registers m registers) r
+  pub whole : blank r ≡ r
 
 -- the place that a register may hold
 held_so : (p : Place) (b : Bool) → nat_le p.0 (MOST_GRANULES) ≡ b → IsHeld (if b then p else nil)
@@ -98,13 +100,14 @@ held_so p false e = omega arith
 
 -- so it is of one that was refused, and of one that was served
 pub answers_with : (m m' : Mutating) (r : Reply) → IsMutator m → IsAnswered m m' r → AnswersWith m m' r
-answers_with m m' r is (inl (e, now)) = record { registers = m.registers; are = is.registers; mutator = now }
+answers_with m m' r is (inl (e, now)) = record { registers = m.registers; are = is.registers; mutator = now; whole = subst (λ x. blank x ≡ x) (sym e) refl }
 answers_with m m' r is (inr (place, e, now)) =
     let dest = dest_of (op_now m) in
     record {
       registers = slice_set m.registers dest (held_place place);
       are = registers_set m.registers dest (held_place place) is.registers (held_so place (nat_le place.0 (MOST_GRANULES)) refl);
       mutator = now ∙ ap (answered (with_registers m (slice_set m.registers dest (held_place place)))) (sym e);
+      whole = subst (λ x. blank x ≡ x) (sym e) refl;
     }
 
 -- it is a mutator of the same space still

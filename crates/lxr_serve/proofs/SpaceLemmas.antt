@@ -1,6 +1,5 @@
 -- What a served `new` does to a space: but for the words, the registers, the rest and the number of `new`s all stays.
-use Rattle.std.proofs.Common.{◌≡◌, ℕ, ◌+◌, ◌<◌, ◌≤◌, sym, ap, subst, ◌∙◌, arith, length}
-use Rattle.std.proofs.lemmas.List.{length-map}
+use Rattle.std.proofs.Common.{◌≡◌, ℕ, ◌+◌, sym, ap, subst, ◌∙◌, arith}
 use Rattle.std.specs.Prelude.{Some}
 use Rattle.lxr_layout.specs.declared.Name.{Name}
 use Rattle.lxr_layout.specs.declared.Place.{Place}
@@ -11,7 +10,6 @@ use Rattle.lxr_graph.specs.State.{next_name as name_of_next}
 use Rattle.lxr_graph.specs.Step.{IsReply}
 use Rattle.lxr_image.specs.declared.space.Space.{Space}
 use Rattle.lxr_image.specs.declared.space.Tally.{Tally}
-use Rattle.lxr_image.specs.Image.{place_word}
 use Rattle.lxr_invariant.specs.AbstractState.{AbstractState}
 use Rattle.lxr_invariant.specs.Quiescent.{IsQuiescent}
 use Rattle.lxr_invariant.proofs.RestLemmas.{quiescent_rests, rests_quiescent}
@@ -96,14 +94,3 @@ new_served before after m m' w dest shape g may waits is makes =
       others = serves_keeps before after m m' w makes;
       news = serves_one before after m m' w makes;
     }
-
--- the graph has a row for each thread
-pub row_of_thread : (s : Space) (g : AbstractState) (t : ℕ) → IsQuiescent s g → 1 ≤ t → t ≤ s.limits.threads → t < length g.moment.state.graph
-row_of_thread s g t is some within =
-    let d = is.safepoint.holds in
-    let registers = g.moment.state.registers in
-    let long : length s.registers.items ≡ length registers =
-    sym (length-map s.registers.items (λ p. p.0)) ∙ ap length d.image.registers ∙ length-map registers (place_word g.at) in
-    let many = d.as_many.0 in
-    let rows = d.follows.registers in
-    omega (arith, long, many, rows)

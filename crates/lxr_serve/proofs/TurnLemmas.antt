@@ -12,7 +12,9 @@ use Rattle.lxr_graph.specs.Step.{fresh}
 use Rattle.lxr_image.specs.declared.space.Space.{Space}
 use Rattle.lxr_model.specs.Moments.{Moment, after_call, moment}
 use Rattle.lxr_invariant.specs.AbstractState.{AbstractState}
+use Rattle.lxr_invariant.proofs.RestLemmas.{quiescent_rests}
 use Rattle.lxr_placing.specs.Placing.{served_abstract_state}
+use Rattle.lxr_placing.proofs.ServedLemmas.{row_of_thread}
 use Rattle.lxr_mutator.specs.declared.phases.Waiting.{Waiting}
 use Rattle.lxr_mutator.specs.Mutating.{IsWaiting, Mutating, next_name as next_made, op_now, waiting_by}
 use Rattle.lxr_mutator.specs.Mutators.{IsAnswered}
@@ -27,7 +29,7 @@ use Rattle.lxr_serve.specs.Turns.{CanTakeTurn}
 use Rattle.lxr_serve.proofs.ActorLemmas.{IsMutatorAt}
 use Rattle.lxr_serve.proofs.FitLemmas.{fit_answered, fits_answered, new_waits, next_other, next_own}
 use Rattle.lxr_serve.proofs.MutatorLemmas.{named_after_full, named_after_new, waits_by}
-use Rattle.lxr_serve.proofs.SpaceLemmas.{KeepsAllElse, new_served, row_of_thread, serves_keeps, serves_one}
+use Rattle.lxr_serve.proofs.SpaceLemmas.{KeepsAllElse, new_served, serves_keeps, serves_one}
 
 -- What a turn has come to: the space may still be served, with one mutator other than it was, and stands for the state that the longer history leads to.
 pub record GoesOn (after : Space) (actors : List AnyActor) (number : ℕ) (m' : Mutating) (g : AbstractState) (h h' : List Item) : Type 0 where
@@ -51,7 +53,7 @@ served_on actors number m m' w before after g h there can waits makes =
     let within = slice_get_within (mutators_in actors) number m there.at in
     let threads = can.fit.as_many in
     let own_thread = fits.thread in
-    let row : m.thread < length graph = row_of_thread before g m.thread can.between (omega arith) (omega arith) in
+    let row : m.thread < length graph = row_of_thread before g m.thread (quiescent_rests before g can.between) (omega arith) (omega arith) in
     let own_name : next_name graph' m.thread ≡ next_made m' =
     next_own graph m.thread (fresh shape) row ∙ ap (λ (n : Name). record { thread = m.thread; serial = n.serial + 1 }) (sym named) ∙ sym (named_after_new m (next_made m)) ∙ ap next_made (sym makes.mutator) in
     let answers : IsAnswered m m' (reply.New (next_made m)) = inr (makes.place, refl, makes.mutator) in

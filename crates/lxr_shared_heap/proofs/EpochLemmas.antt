@@ -1,16 +1,12 @@
 -- From the opening of an epoch of live mutators to its closing.
-use Rattle.std.proofs.Common.{◌≡◌, ℕ, zero, suc, ◌<◌, refl, sym, ap, subst, ◌∙◌, arith, true, List, length, map}
-use Rattle.std.specs.Prelude.{Option, Some, [], ◌∷◌, slice_get, slice_index_or}
+use Rattle.std.proofs.Common.{◌≡◌, ℕ, zero, suc, refl, sym, ap, subst, ◌∙◌, arith, true, List, length, map}
+use Rattle.std.specs.Prelude.{Some, [], ◌∷◌, slice_get}
 use Rattle.std.proofs.lemmas.List.{length-map}
-use Rattle.std.proofs.lemmas.Option.{slice_get-get_or, slice_get_within}
+use Rattle.std.proofs.lemmas.Option.{slice_get_within}
 use Rattle.lxr_layout.specs.declared.Place.{Place}
 use Rattle.lxr_image.specs.declared.space.Space.{Space}
 use Rattle.lxr_actor.specs.declared.Core.{Core}
 use Rattle.lxr_actor.specs.Run.{AlwaysFits, core_of, run}
-use Rattle.lxr_mutator.specs.declared.phases.MutEnd.{MutEnd}
-use Rattle.lxr_mutator.specs.declared.phases.MutEnd.TheVariants as ends
-use Rattle.lxr_mutator.specs.Mutating.{rests_in}
-use Rattle.lxr_mutator.specs.Mutators.{phase_again}
 use Rattle.lxr_core_invariant.specs.EpochStates.{Beginning}
 use Rattle.lxr_core.specs.declared.actors.AnyActor.{AnyActor}
 use Rattle.lxr_core.specs.declared.actors.AnyActor.TheVariants as any
@@ -20,9 +16,10 @@ use Rattle.lxr_core.specs.Collecting.{actor_given_up}
 use Rattle.lxr_core.specs.Executions.{Execution, HoldsExecution, tell_all}
 use Rattle.lxr_core.specs.Filling.{unfilled}
 use Rattle.lxr_core.specs.Opening.{Begins, Opens, execution_at}
-use Rattle.lxr_core.specs.Starting.{HaveStarted, registers_in, started_again}
+use Rattle.lxr_core.specs.Ordering.{TellNames}
+use Rattle.lxr_core.specs.Starting.{registers_in, started_again}
 use Rattle.lxr_core.proofs.ExecutionLemmas.{epoch_invariant_holds}
-use Rattle.lxr_core.proofs.MappedLemmas.{mapped}
+use Rattle.lxr_core.proofs.LastingLemmas.{names_opened}
 use Rattle.lxr_shared.specs.Sharing.{Sharing}
 use Rattle.lxr_shared_passes.specs.Passing.{Every, IsEnd, Passing}
 use Rattle.lxr_shared.proofs.StartedLemmas.{started_helpers}
@@ -34,32 +31,6 @@ use Rattle.lxr_shared_heap.proofs.LivingLemmas.{live_opened}
 -- what two are some of is one
 some_same : (a b : AnyActor) → Some a ≡ Some b → a ≡ b
 some_same a b e = cc
-
--- ---- the actors rest as an epoch opens
-
-mutator_rests : (e : Option MutEnd) → rests_in (phase_again e) ≡ true
-mutator_rests (Some ends.Ended) = refl
-mutator_rests e = refl
-
-again_rests : (a : AnyActor) (registers : List Place) → any_machine.rests (started_again a registers) ≡ true
-again_rests (any.Mutator m) registers = mutator_rests m.end
-again_rests (any.Decrementer d) registers = refl
-again_rests (any.Tracer d) registers = refl
-
-filled_rests : (a : AnyActor) → any_machine.rests a ≡ any_machine.rests (unfilled a)
-filled_rests (any.Mutator m) = refl
-filled_rests (any.Decrementer d) = refl
-filled_rests (any.Tracer d) = refl
-
-pub started_rest : (places : List Place) (before after : List AnyActor) → HaveStarted places before (map unfilled after) (length before) → AreResting after
-started_rest places before after have i x at =
-    let many = have.as_many in
-    let as_many = length-map after unfilled in
-    let inside = slice_get_within after i x at in
-    let below : i < length before = omega arith in
-    let now = have.started i (slice_index_or before i x) (slice_get-get_or before i x below) below in
-    let same = some_same (unfilled x) (started_again (slice_index_or before i x) (registers_in places i)) (sym (mapped unfilled after i x at) ∙ now) in
-    filled_rests x ∙ ap any_machine.rests same ∙ again_rests (slice_index_or before i x) (registers_in places i)
 
 -- as many actors as before
 pub started_many : (before after : Space) (resting started : List AnyActor) → Opens before after resting started → length started ≡ length resting
@@ -111,6 +82,7 @@ began_with before opened resting started epoch opens opening =
       decrementers = ap (λ (k : Core AnyActor). length (decrementers_in k.actors)) opening ∙ helpers.decrementers;
       tracers = ap (λ (k : Core AnyActor). length (tracers_in k.actors)) opening ∙ helpers.tracers;
       live = λ live. subst (λ (k : Core AnyActor). AreLive (mutators_in k.actors)) (sym opening) (live_opened before opened resting started opens live);
+      names = λ b tell. subst (λ (k : Core AnyActor). TellNames b (mutators_in k.actors)) (sym opening) (names_opened b before opened resting started opens tell);
     }
 
 -- ---- what it has come to

@@ -4,7 +4,7 @@ use Rattle.std.specs.List.{list_any}
 use Rattle.std.specs.Prelude.{drop, not, IfErr, IsTrue, None, Option, Result, Err, Ok, Some, slice_get}
 use Rattle.std.proofs.lemmas.List.{length-map}
 use Rattle.lxr_mutator.specs.Mutating.{Mutating}
-use Rattle.lxr_graph.specs.History.{Item, Pause, PauseReport, Renew, report_of}
+use Rattle.lxr_graph.specs.History.{Item, Pause, PauseReport, Renew, replies_of, report_of}
 use Rattle.lxr_model.specs.Moments.{Moment, moment}
 use Rattle.lxr_rounds_history.specs.Left.{last_report}
 use Rattle.lxr_image.specs.declared.space.Space.{Space}
@@ -19,25 +19,29 @@ use Rattle.lxr_actor.specs.declared.Event.{Event}
 use Rattle.lxr_actor.specs.Run.{run}
 use Rattle.lxr_actor.proofs.Runs.{run-lengths}
 use Rattle.lxr_core_invariant.specs.EpochStates.{Beginning, Extends, limits_of}
+use Rattle.lxr_mutator.specs.Naming.{all_told_as}
 use Rattle.lxr_core.specs.declared.actors.AnyActor.{AnyActor}
 use Rattle.lxr_core.specs.declared.actors.AnyActor.TheVariants as any
 use Rattle.lxr_core.specs.Actors.{AreInOrder, any_machine, decrementers_in, mutators_in, script_of, tracers_in}
 use Rattle.lxr_core.specs.Collecting.{actor_given_up, given_up}
 use Rattle.lxr_core.specs.Executions.{Execution, tell_all}
 use Rattle.lxr_core.specs.Opening.{Begins}
+use Rattle.lxr_core.specs.Ordering.{TellNames}
 use Rattle.lxr_core.proofs.ExecutionLemmas.{epoch_invariant_holds}
 use Rattle.lxr_core.proofs.ClosingLemmas.{given_mutators}
+use Rattle.lxr_core.proofs.LastingLemmas.{names_run}
 use Rattle.lxr_core.proofs.MappedLemmas.{mapped_from}
 use Rattle.lxr_core.proofs.OrderLemmas.{lengths_add, mutator_at, mutator_from}
 use Rattle.lxr_core.proofs.ScriptLemmas.{scripts_go_on}
+use Rattle.lxr_core.proofs.TracerLemmas.{tracers_run}
 use Rattle.lxr_shared.specs.Sharing.{Sharing}
 use Rattle.lxr_shared_passes.specs.Passing.{IsSeen}
+use Rattle.lxr_one_pause.specs.Telling.{TellsWanted}
 use Rattle.lxr_rounds_invariant.specs.Laws.{HasClosed, asked_for, beginning_of}
 use Rattle.lxr_rounds_invariant.specs.LoopInvariant.{HasRunEpoch, HasRunTo, IsBetweenEpochs, Task, pace_of, terms_of}
 use Rattle.lxr_model.specs.Kinds.{ends}
 use Rattle.lxr_rounds_invariant.proofs.ActorLemmas.{ends_are_fewer}
 use Rattle.lxr_rounds_invariant.proofs.EpochLemmas.{epochs_run, may_open}
-use Rattle.lxr_rounds.proofs.TracerLemmas.{tracers_run}
 use Rattle.lxr_shared_heap.specs.declared.heap.Paused.{Paused}
 use Rattle.lxr_shared_heap.specs.declared.heap.Paused.TheVariants as paused
 use Rattle.lxr_shared_heap.specs.declared.heap.Resumed.{Resumed}
@@ -53,14 +57,14 @@ use Rattle.lxr_shared_heap.specs.Arriving.{HasComeHome, IsHandedIn, Tells}
 use Rattle.lxr_shared_heap.specs.Stations.{IsNotOut, Lived, Stationed}
 use Rattle.lxr_shared_heap.specs.Gathering.{HaveEndedFrom, HoldGivenUp, IsUnclosed}
 use Rattle.lxr_shared_heap.specs.declared.settings.Settings.{Settings}
-use Rattle.lxr_shared_heap.specs.Heaps.{AreAsHandedIn, ComesToRest, HasOpened, HasPaused, HasPausedWith, Heaped, HeapsHaveHistories, IsAtRest, IsHeapOf, IsKept, IsRenewed, Pauses, PausesWith, Resumes, StandsFor, actors_of, paused_for, space_at, still_asked}
+use Rattle.lxr_shared_heap.specs.Heaps.{AreAsHandedIn, ComesToRest, HasOpened, HasPaused, HasPausedWith, Heaped, HeapsHaveHistories, IsAtRest, IsHeapOf, IsKept, IsRenewed, Pauses, PausesWith, Resumes, StandsFor, TellsRenewed, actors_of, paused_for, space_at, still_asked}
 use Rattle.lxr_shared_heap.specs.Living.{AreLive}
 use Rattle.lxr_shared_heap.specs.Running.{BeganWith, ClosesLive, IsRunning, shown_of}
-use Rattle.lxr_shared_heap.specs.Renewing.{RenewsWhere, StandsIdle, actor_renewed, waits}
+use Rattle.lxr_shared_heap.specs.Renewing.{RenewsWhere, StandsIdle, actor_renewed, ends_with_renewal, waits}
 use Rattle.lxr_shared_heap.specs.Resting.{GoesOnBehind, HasRested}
 use Rattle.lxr_shared_heap.specs.Settings.{run_of}
 use Rattle.lxr_shared_heap.proofs.LivingLemmas.{live_as, live_given, live_run}
-use Rattle.lxr_shared_heap.proofs.IdleLemmas.{idle_behind}
+use Rattle.lxr_shared_heap.proofs.IdleLemmas.{idle_behind, none_wait}
 use Rattle.lxr_shared_heap.specs.Telling.{EndByNewest, EndsByNewest, HaveReplied}
 use Rattle.lxr_shared_heap.proofs.RecallLemmas.{answers_newest, newest_renewed}
 use Rattle.lxr_shared_heap.proofs.SeenLemmas.{beginning_leads, seen_begins}
@@ -97,6 +101,7 @@ has_opened task h space actors epoch (g, amid) live newest runs began =
       workers = ap (λ (k : Core AnyActor). length (decrementers_in k.actors)) running.core ∙ began.decrementers ∙ amid.actors_rest.workers;
       tracers = ap (λ (k : Core AnyActor). length (tracers_in k.actors)) running.core ∙ began.tracers ∙ amid.actors_rest.tracers;
       live = subst (λ (k : Core AnyActor). AreLive (mutators_in k.actors)) (sym running.core) (began.live live);
+      names = subst (λ (k : Core AnyActor). TellNames task.names (mutators_in k.actors)) (sym running.core) (began.names task.names amid.actors_rest.mutators.names);
       shown = ap (λ (k : Core AnyActor). shown_of (mutators_in k.actors)) running.core ∙ began.shown;
       newest = newest;
     }
@@ -177,6 +182,7 @@ module _ (settings : Settings) (script : Script) (h : List Item) (epoch : Sharin
   closed = record {
     words = closes.words;
     script = refl;
+    names = subst (λ (k : Core AnyActor). TellNames settings.names (mutators_in k.actors)) (sym ran_is) (names_run settings.names open_epoch.running.opened.core closes.schedule open_epoch.names);
     workers = same_decrementers ∙ open_epoch.workers;
     tracers = same_tracers ∙ open_epoch.tracers;
     closes = closes.closes;
@@ -190,7 +196,7 @@ module _ (settings : Settings) (script : Script) (h : List Item) (epoch : Sharin
       let order = (epoch_invariant_holds b open_epoch.running.opened closes.schedule open_epoch.running.holds).holds.1.order in
       let ran = sym (ap (λ (k : Core AnyActor). slice_get k.actors i) ran_is) ∙ mutator_from end.core.actors i x order there in
       subst (EndsByNewest (i + 1) end.history) (sym is)
-      (ends_newest (run_of settings script) h epoch open_epoch (limits_of b).threads b.every end.history closes.schedule i x ran closes.closes.extends ((replied i m at).replies ∙ ap (λ (z : Mutating). z.replies.items) is))
+      (ends_newest (run_of settings script) h epoch open_epoch (limits_of b).threads b.every end.history closes.schedule i x ran closes.closes.extends (subst (λ (z : Mutating). all_told_as z.names (replies_of (i + 1) end.history) ≡ z.replies.items) is (replied i m at).replies))
 
   -- there are as many threads as the script says
   threads_are : (limits_of b).threads ≡ length script
@@ -252,10 +258,15 @@ pub record StandsRenewed (Due : Type 0) (settings : Settings) (script : Script) 
   pub between : IsBetweenEpochs (run_of settings renewed_script) space None actors renewed_history abstract_state
   pub live : AreLive (mutators_in actors)
   pub newest : EndByNewest renewed_history (mutators_in actors)
+  pub told : TellsWanted (ends_with_renewal renewed_history) space.report
+
+-- behind a history that ends with no renewal no counts are listed
+pub tells_none : (h : List Item) (space : Space) → ends_with_renewal h ≡ false → space.report.told.items ≡ [] → TellsWanted (ends_with_renewal h) space.report
+tells_none h space unrenewed untold = subst (λ b. TellsWanted b space.report) (sym unrenewed) untold
 
 pub stands_renewed : {Due : Type 0} (due : Bool) → (due ≡ true → Due) → (Due → due ≡ true) → (settings : Settings) (script : Script) (h : List Item) (g : AbstractState) (space : Space) (actors : List AnyActor) (idle : Bool) (space' : Space) (actors' : List AnyActor) → StandsIdle settings script space actors h g idle
-    → EndByNewest h (mutators_in actors) → RenewsWhere due space actors idle space' actors' → StandsRenewed Due settings script h (mutators_in actors) space' actors'
-stands_renewed true is tells settings script h g space actors idle space' actors' stands newest renews =
+    → EndByNewest h (mutators_in actors) → RenewsWhere due space actors idle space' actors' → ends_with_renewal h ≡ false → space.report.told.items ≡ [] → StandsRenewed Due settings script h (mutators_in actors) space' actors'
+stands_renewed true is tells settings script h g space actors idle space' actors' stands newest renews unrenewed untold =
     let anew = renews settings script h g stands in record {
       renewed_script = script_of (mutators_in actors');
       renewed_history = Renew anew.names ∷ h;
@@ -264,8 +275,9 @@ stands_renewed true is tells settings script h g space actors idle space' actors
       between = anew.between;
       live = anew.live;
       newest = subst (λ xs. EndByNewest (Renew anew.names ∷ h) (mutators_in xs)) (sym anew.begin_anew) (newest_renewed (length anew.names) anew.names h actors newest);
+      told = anew.told;
     }
-stands_renewed false is tells settings script h g space actors idle space' actors' stands newest renews = record {
+stands_renewed false is tells settings script h g space actors idle space' actors' stands newest renews unrenewed untold = record {
   renewed_script = script;
   renewed_history = h;
   renewed = inl (λ due. (let wrong : false ≡ true = tells due in absurd (cc)), refl, refl);
@@ -273,6 +285,7 @@ stands_renewed false is tells settings script h g space actors idle space' actor
   between = subst (λ s. IsBetweenEpochs (run_of settings script) s None actors' h g) (sym renews.0) (subst (λ xs. IsBetweenEpochs (run_of settings script) space None xs h g) (sym renews.1) stands.between);
   live = subst (λ xs. AreLive (mutators_in xs)) (sym renews.1) stands.live;
   newest = subst (λ xs. EndByNewest h (mutators_in xs)) (sym renews.1) newest;
+  told = subst (λ (s : Space). TellsWanted (ends_with_renewal h) s.report) (sym renews.0) (tells_none h space unrenewed untold);
 }
 
 -- there are as many actors
@@ -293,6 +306,7 @@ idle_stands settings script calls actors space actors' rested live b is = record
   between = rested.stands.1;
   live = live_as (mutators_in actors) (mutators_in actors') rested.asked live;
   paused = λ idle. idle_behind (run_of settings script) rested.report calls actors (mutators_in actors') rested.history rested.behind (sym is ∙ is_false b idle);
+  drained = λ idle. rested.drained (λ (i, m, at, waiting). none_wait actors (sym is ∙ is_false b idle) i m at waiting);
 }
 
 -- behind what waited each mutator's last unit ended with its thread's newest reply, if it ended with one
@@ -322,9 +336,10 @@ has_paused handed settings script h live now of space actors on comes =
       mutators = mutators_in actors;
       come = on.come;
       asked = on.ran.actors_rest.mutators.script;
+      names = on.ran.actors_rest.mutators.names;
       replied = have_replied (run_of settings on.script') on.calls (mutators_in actors) on.ran.actors_rest.mutators;
       rest = rest;
-      holds = record { settings = of.settings; threads = renewed_threads rest.answered on.script' rest.history rest.renewed_script rest.renewed_history rest.asked rest.renewed ∙ as_many_go_on script on.script' on.goes_on ∙ of.threads; stands = rest.stands };
+      holds = record { settings = of.settings; threads = renewed_threads rest.answered on.script' rest.history rest.renewed_script rest.renewed_history rest.asked rest.renewed ∙ as_many_go_on script on.script' on.goes_on ∙ of.threads; stands = rest.stands; told = rest.told };
     }
 
 -- so it is with mutators that were handed in
@@ -417,6 +432,13 @@ rest_at task h (stage.Between at_rest actors) space stands is = (tt, subst (IsAt
 rest_at task h (stage.Within live) space stands is = absurd (cc)
 rest_at task h (stage.Ended at_rest actors) space stands is = (tt, subst (IsAtRestIn task h) (some_space at_rest space is) (ended_rest task h at_rest actors.items stands))
 rest_at task h stage.Lost space stands is = absurd (cc)
+
+-- and its last report lists what it says of the heap
+pub told_at : (h : List Item) (s : Stage) (space : Space) → TellsRenewed h s → space_at s ≡ Some space → TellsWanted (ends_with_renewal h) space.report
+told_at h (stage.Between at_rest actors) space told is = subst (λ (x : Space). TellsWanted (ends_with_renewal h) x.report) (some_space at_rest space is) told
+told_at h (stage.Within live) space told is = absurd (cc)
+told_at h (stage.Ended at_rest actors) space told is = subst (λ (x : Space). TellsWanted (ends_with_renewal h) x.report) (some_space at_rest space is) told
+told_at h stage.Lost space told is = absurd (cc)
 
 -- and else it is not at rest
 pub no_rest : (s : Stage) → space_at s ≡ None → ¬ IsAtRest s

@@ -54,24 +54,24 @@ set_same (x ∷ ms) zero m at = let same : x ≡ m = cc in ap (λ z. z ∷ ms) (
 set_same (x ∷ ms) (suc n) m at = ap (λ z. x ∷ z) (set_same ms n m at)
 
 -- the turn of one that doesn't wait changes nothing
-idle_turn : (collected : Bool) (t : ℕ) (m m' : Mutating) (before after : Space) (served served' : Bool) (k k' : List Item) → ¬ IsWaiting m → TakesTurn collected t m m' before after served served' k k' → (m' ≡ m) × (k' ≡ k)
-idle_turn collected t m m' before after served served' k k' none (passes x y z w free) = (refl, refl)
+idle_turn : (collected : Bool) (t : ℕ) (m m' : Mutating) (before after : Space) (served served' : Bool) (k k' : List Item) → ¬ IsWaiting m → TakesTurn collected t m m' before after served served' k k' → (m' ≡ m) × (k' ≡ k) × (after ≡ before)
+idle_turn collected t m m' before after served served' k k' none (passes x y z w free) = (refl, refl, refl)
 idle_turn collected t m m' before after served served' k k' none (serves x x' w b a v g is made) = absurd (none (some_waiting m w is))
 idle_turn collected t m m' before after served served' k k' none (refuses x x' w b a g is told made) = absurd (none (some_waiting m w is))
 
 -- where nobody waits, turns change nothing
 idle_turns : (collected : Bool) (ms : List Mutating) (space : Space) (h : List Item) (n : ℕ) (now : List Mutating) (after : Space) (served : Bool) (k : List Item) → ((i : ℕ) (m : Mutating) → slice_get ms i ≡ Some m → ¬ IsWaiting m)
-    → TakeTurns collected ms space h n now after served k → (now ≡ ms) × (k ≡ h)
-idle_turns collected ms space h n now after served k idle (begins) = (refl, refl)
+    → TakeTurns collected ms space h n now after served k → (now ≡ ms) × (k ≡ h) × (after ≡ space)
+idle_turns collected ms space h n now after served k idle (begins) = (refl, refl, refl)
 idle_turns collected ms space h n now after served k idle (next n' was before after' s s' k' k'' m m' taken at turn) =
     let old = idle_turns collected ms space h n' was before s k' idle taken in
     let stays = idle_turn collected (n' + 1) m m' before after' s s' k' k'' (idle n' m (sym (ap (λ z. slice_get z n') old.0) ∙ at)) turn in
-    (ap (slice_set was n') stays.0 ∙ set_same was n' m at ∙ old.0, stays.1 ∙ old.1)
+    (ap (slice_set was n') stays.0 ∙ set_same was n' m at ∙ old.0, stays.1 ∙ old.1, stays.2 ∙ old.2)
 
 -- nor does answering
-idle_answers : (pace : Pace) (collected : Bool) (ms ms' : List Mutating) (space space' : Space) (h h' : List Item) → ((i : ℕ) (m : Mutating) → slice_get ms i ≡ Some m → ¬ IsWaiting m)
-    → AnswersWaiting pace collected ms space h ms' space' h' → h' ≡ h
-idle_answers pace collected ms ms' space space' h h' idle (all c a b s s' k k' answers) = (idle_turns collected ms space h (length ms) ms' space' answers.served h' idle answers.turns).1
+pub idle_answers : (pace : Pace) (collected : Bool) (ms ms' : List Mutating) (space space' : Space) (h h' : List Item) → ((i : ℕ) (m : Mutating) → slice_get ms i ≡ Some m → ¬ IsWaiting m)
+    → AnswersWaiting pace collected ms space h ms' space' h' → (h' ≡ h) × (space' ≡ space)
+idle_answers pace collected ms ms' space space' h h' idle (all c a b s s' k k' answers) = let stays = idle_turns collected ms space h (length ms) ms' space' answers.served h' idle answers.turns in (stays.1, stays.2)
 idle_answers pace collected ms ms' space space' h h' idle (collects c a middle b s full then s' k k' k'' answers pause rest) =
     let same = idle_turns collected ms space h answers.number middle full answers.served k' idle answers.turns in
     absurd (idle answers.number answers.mutator (sym (ap (λ z. slice_get z answers.number) same.0) ∙ answers.turn) (some_waiting answers.mutator answers.waiting answers.waits))
@@ -81,7 +81,7 @@ pub idle_last : (task : Task) (report : PauseReport) (calls : List Item) (actors
     → list_any waits actors ≡ false → h ≡ Pause report ∷ calls
 idle_last task report calls actors mutators' h (inl (ended, last)) none = last
 idle_last task report calls actors mutators' h (inr behind) none =
-    idle_answers (pace_of task.plan) behind.collected (mutators_in actors) mutators' behind.paused behind.answered (Pause report ∷ calls) h (none_wait actors none) behind.answers
+    (idle_answers (pace_of task.plan) behind.collected (mutators_in actors) mutators' behind.paused behind.answered (Pause report ∷ calls) h (none_wait actors none) behind.answers).0
 
 -- nothing stands behind it
 pub idle_behind : (task : Task) (report : PauseReport) (calls : List Item) (actors : List AnyActor) (mutators' : List Mutating) (h : List Item) → GoesOnBehind task report calls (mutators_in actors) mutators' h

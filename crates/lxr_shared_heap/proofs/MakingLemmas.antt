@@ -1,6 +1,6 @@
 -- The actors of a new heap are those of a run of live mutators that is between two epochs, with the empty history.
 use Rattle.std.proofs.Common.{◌≡◌, ℕ, suc, ◌+◌, ◌≤◌, refl, sym, ap, subst, ◌∙◌, ⊎_elim, arith, List, [], ◌∷◌, ◌++◌, map, length}
-use Rattle.std.specs.Prelude.{None, Some, replicate, slice_get}
+use Rattle.std.specs.Prelude.{Bool, None, Some, replicate, slice_get}
 use Rattle.std.proofs.lemmas.List.{length-map, length-replicate, map-append}
 use Rattle.lxr_layout.specs.declared.limits.Limits.{Limits}
 use Rattle.lxr_layout.specs.Spaces.{AreLimits}
@@ -34,22 +34,22 @@ use Rattle.lxr_shared_heap.specs.Settings.{AreSettings, limits_in, run_of}
 -- ---- the mutators
 
 -- none is made at first
-pub none_new : (l : Limits) (every : ℕ) (actors : List AnyActor) → actors ≡ [] → AreNew l every 0 actors
-none_new l every actors nothing = subst (AreNew l every 0) (sym nothing) (record { alone = refl; script = refl; each = λ i m at. absurd (cc); sound = λ i m at. absurd (cc) })
+pub none_new : (l : Limits) (every : ℕ) (names : Bool) (actors : List AnyActor) → actors ≡ [] → AreNew l every names 0 actors
+none_new l every names actors nothing = subst (AreNew l every names 0) (sym nothing) (record { alone = refl; script = refl; each = λ i m at. absurd (cc); sound = λ i m at. absurd (cc) })
 
 -- there are so many
-new_many : (l : Limits) (every n : ℕ) (actors : List AnyActor) → AreNew l every n actors → length (mutators_in actors) ≡ n
-new_many l every n actors new = sym (length-map (mutators_in actors) (λ (m : Mutating). m.operations)) ∙ ap length new.script ∙ length-replicate n []
+new_many : (l : Limits) (every : ℕ) (names : Bool) (n : ℕ) (actors : List AnyActor) → AreNew l every names n actors → length (mutators_in actors) ≡ n
+new_many l every names n actors new = sym (length-map (mutators_in actors) (λ (m : Mutating). m.operations)) ∙ ap length new.script ∙ length-replicate n []
 
 -- the mutators of so many threads, and that of the next
-pub new_pushed : (l : Limits) (every n : ℕ) (actors actors' : List AnyActor) (m : Mutating) → AreNew l every n actors → m ≡ first_live (n + 1) l every → IsMutator m → actors' ≡ actors ++ any.Mutator m ∷ []
-    → AreNew l every (n + 1) actors'
-new_pushed l every n actors actors' m new is sound pushed =
+pub new_pushed : (l : Limits) (every : ℕ) (names : Bool) (n : ℕ) (actors actors' : List AnyActor) (m : Mutating) → AreNew l every names n actors → m ≡ first_live (n + 1) l every names → IsMutator m → actors' ≡ actors ++ any.Mutator m ∷ []
+    → AreNew l every names (n + 1) actors'
+new_pushed l every names n actors actors' m new is sound pushed =
     let ms = mutators_in actors in
     let more : mutators_in actors' ≡ ms ++ m ∷ [] = ap mutators_in pushed ∙ mutators_of_both actors (any.Mutator m ∷ []) in
     let unasked : m.operations ≡ [] = ap (λ (x : Mutating). x.operations) is in
     let next : suc n ≡ n + 1 = omega arith in
-    let many = new_many l every n actors new in
+    let many = new_many l every names n actors new in
     record {
       alone = pushed ∙ ap (λ (xs : List AnyActor). xs ++ any.Mutator m ∷ []) new.alone ∙ sym (map-append any.Mutator ms (m ∷ [])) ∙ ap (map any.Mutator) (sym more);
       script =
@@ -64,7 +64,7 @@ new_pushed l every n actors actors' m new is sound pushed =
           (λ (before : slice_get ms i ≡ Some x). new.each i x before)
           (λ (last : (i ≡ length ms) × (m ≡ x)).
           let this : n + 1 ≡ i + 1 = omega arith in
-          subst (λ (y : Mutating). y ≡ first_live (i + 1) l every) last.1 (is ∙ ap (λ k. first_live k l every) this))
+          subst (λ (y : Mutating). y ≡ first_live (i + 1) l every names) last.1 (is ∙ ap (λ k. first_live k l every names) this))
           (pushed_at ms m x i (subst (λ xs. slice_get xs i ≡ Some x) more at));
       sound = λ i x at.
           ⊎_elim
@@ -80,7 +80,7 @@ pub settings_fit : (settings : Settings) → AreSettings settings → AreLimits 
 settings_fit settings ranges = record { blocks = (ranges.blocks.0, let few = ranges.blocks.1 in omega (arith, few)); threads = ranges.mutators; log = ranges.log; remember = ranges.remember }
 
 -- it is between two epochs
-pub new_between : (settings : Settings) (space : Space) (mutators actors : List AnyActor) → AreSettings settings → AreNew (limits_in settings) settings.every settings.mutators mutators
+pub new_between : (settings : Settings) (space : Space) (mutators actors : List AnyActor) → AreSettings settings → AreNew (limits_in settings) settings.every settings.names settings.mutators mutators
     → HelpersStandBehind (limits_in settings) settings.helpers mutators actors → IsOpened space (limits_in settings) → IsQuiescent space (opening_abstract_state settings.mutators) → IsListedWhole space
     → IsBetweenEpochs (run_of settings (replicate settings.mutators [])) space None actors [] (opening_abstract_state settings.mutators)
 new_between settings space mutators actors ranges new stand opened between listed =
@@ -111,8 +111,8 @@ new_between settings space mutators actors ranges new stand opened between liste
           (record {
             script = new.script;
             each = λ i m at.
-                let is = new.each i m at ∙ ap (λ (k : Limits). first_live (i + 1) k settings.every) of_task in
-                (MOST_OPERATIONS + 1, is ∙ ap (λ (o : List Op). first_of (i + 1) o (task_limits task) settings.every (MOST_OPERATIONS + 1)) (sym (ap (λ (x : Mutating). x.operations) is)));
+                let is = new.each i m at ∙ ap (λ (k : Limits). first_live (i + 1) k settings.every settings.names) of_task in
+                (MOST_OPERATIONS + 1, is ∙ ap (λ (o : List Op). first_of (i + 1) o (task_limits task) settings.every (MOST_OPERATIONS + 1) settings.names) (sym (ap (λ (x : Mutating). x.operations) is)));
             sound = new.sound;
           });
       helpers = subst (λ k. HelpersRest k actors) of_task helpers.rest;
@@ -122,15 +122,15 @@ new_between settings space mutators actors ranges new stand opened between liste
     })
 
 -- and its mutators are live
-pub new_live : (l : Limits) (every n w : ℕ) (mutators actors : List AnyActor) → AreNew l every n mutators → HelpersStandBehind l w mutators actors → AreLive (mutators_in actors)
-new_live l every n w mutators actors new stand =
+pub new_live : (l : Limits) (every : ℕ) (names : Bool) (n w : ℕ) (mutators actors : List AnyActor) → AreNew l every names n mutators → HelpersStandBehind l w mutators actors → AreLive (mutators_in actors)
+new_live l every names n w mutators actors new stand =
     let ms = mutators_in mutators in
     let same : mutators_in actors ≡ ms = ap mutators_in (behind_in_order l w ms mutators actors new.alone stand) ∙ mutators_of_order ms (replicate w (first_decrementer l)) (replicate w (first_tracer l)) in
     subst AreLive (sym same) (λ i m at. subst IsLive (sym (new.each i m at)) refl)
 
 -- nor have they ended a unit
-pub new_newest : (l : Limits) (every n w : ℕ) (mutators actors : List AnyActor) → AreNew l every n mutators → HelpersStandBehind l w mutators actors → EndByNewest [] (mutators_in actors)
-new_newest l every n w mutators actors new stand =
+pub new_newest : (l : Limits) (every : ℕ) (names : Bool) (n w : ℕ) (mutators actors : List AnyActor) → AreNew l every names n mutators → HelpersStandBehind l w mutators actors → EndByNewest [] (mutators_in actors)
+new_newest l every names n w mutators actors new stand =
     let ms = mutators_in mutators in
     let same : mutators_in actors ≡ ms = ap mutators_in (behind_in_order l w ms mutators actors new.alone stand) ∙ mutators_of_order ms (replicate w (first_decrementer l)) (replicate w (first_tracer l)) in
     subst (EndByNewest []) (sym same) (λ i m at. subst (EndsByNewest (i + 1) []) (sym (new.each i m at)) (λ r is. absurd (cc)))

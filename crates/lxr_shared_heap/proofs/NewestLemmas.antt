@@ -9,10 +9,12 @@ use Rattle.lxr_graph.specs.declared.Op.TheVariants as op
 use Rattle.lxr_graph.specs.declared.Reply.{Reply}
 use Rattle.lxr_graph.specs.History.{Call, Item, Pause, Renew, calls_of, replies_of}
 use Rattle.lxr_model.specs.Belongs.{Script}
-use Rattle.lxr_mutator.specs.Mutating.{Mutating, newest_of, reply_in}
+use Rattle.lxr_mutator.specs.Mutating.{Mutating, last_reply, newest_of, reply_in}
+use Rattle.lxr_mutator.specs.Naming.{all_told_as, told_as}
+use Rattle.lxr_mutator.proofs.NamingLemmas.{ends_told, told_length}
 use Rattle.lxr_core_invariant.specs.EpochStates.{Extends, IsStepCall, called, same}
 use Rattle.lxr_shared_heap.specs.declared.settings.Settings.{Settings}
-use Rattle.lxr_shared_heap.specs.Telling.{IsNewestCall, TellsHistory, newest_reply}
+use Rattle.lxr_shared_heap.specs.Telling.{IsNewestCall, TellsHistory, TellsNewest, newest_reply}
 
 -- ---- lists
 
@@ -70,15 +72,15 @@ newest_is t (Call u o q ∷ h) rs r e = by_own (nat_eq t u) e (newest_is t h rs 
     by_own true e earlier = ap Some (last_is (replies_of t h) rs q r e)
     by_own false e earlier = earlier e
 
--- so a mutator that has replies shows it
-pub newest_told : (t : ℕ) (h : List Item) (m : Mutating) → replies_of t h ≡ m.replies.items → 0 < length m.replies.items → newest_of m ≡ newest_reply t h
-newest_told t h m replies some =
+-- so a mutator that has replies shows it, as it is told
+pub newest_told : (t : ℕ) (h : List Item) (m : Mutating) (r : Reply) → all_told_as m.names (replies_of t h) ≡ m.replies.items → 0 < length m.replies.items → newest_of m ≡ Some r → TellsNewest m.names t h r
+newest_told t h m r replies some is =
     let end = has_last m.replies.items some in
-    let many = ap length end.is ∙ length-append end.front (end.last ∷ []) in
-    let at : length m.replies.items - 1 ≡ length end.front = omega (arith, many) in
-    let shown : slice_get m.replies.items (length m.replies.items - 1) ≡ Some end.last =
-    ap (slice_get m.replies.items) at ∙ ap (λ xs. slice_get xs (length end.front)) end.is ∙ behind_is end.front end.last in
-    ap (λ z. option_or z (reply_in m.end)) shown ∙ sym (newest_is t h end.front end.last (replies ∙ end.is))
+    let shown : last_reply m ≡ Some end.last = ap (λ xs. slice_get xs (length xs - 1)) end.is ∙ last_stands end.front end.last in
+    let same : Some end.last ≡ Some r = sym (ap (λ z. option_or z (reply_in m.end)) shown) ∙ is in
+    let ends = ends_told m.names (replies_of t h) end.front end.last (replies ∙ end.is) in
+    let last : end.last ≡ r = cc in
+    (ends.last, newest_is t h ends.front ends.last ends.is, ends.told ∙ last)
 
 -- ---- the newest call
 
@@ -130,15 +132,21 @@ newest_stands threads every h k t os rs o r (called l u p q before is) calls rep
 
 -- ---- what a station has answered
 
--- where a mutator has one reply more than it had, to the operation at that place
+-- where a mutator has one reply more than it had, to the operation at that place: it is told so
 pub told_newest : (settings : Settings) (script : Script) (h k l : List Item) (number : ℕ) (x m : Mutating) (o : Op) (r : Reply) → TellsHistory settings script h k number m → TellsHistory settings script h l number x
-    → m.replies.items ≡ x.replies.items ++ r ∷ [] → slice_get m.operations (length x.replies.items) ≡ Some o → IsNewestCall (length script) settings.every h (number + 1) o r k
+    → m.replies.items ≡ x.replies.items ++ r ∷ [] → slice_get m.operations (length x.replies.items) ≡ Some o
+    → (replied : Reply) × (told_as m.names replied ≡ r) × IsNewestCall (length script) settings.every h (number + 1) o replied k
 told_newest settings script h k l number x m o r tells told one at =
     let n = length x.replies.items in
     let many : length m.replies.items ≡ suc n = ap length one ∙ length-append x.replies.items (r ∷ []) ∙ (omega arith) in
     let had = replies_grow (length script) settings.every h l (number + 1) told.extends in
-    let shown = ap length told.replied.replies in
-    newest_stands (length script) settings.every h k (number + 1) (take n m.operations) x.replies.items o r tells.extends
-    (tells.replied.calls ∙ ap (λ j. take j (m.operations ++ op.End ∷ [])) many ∙ take_next m.operations (op.End ∷ []) n o at)
-    (tells.replied.replies ∙ one)
-    (omega (arith, had, shown))
+    let shown = sym (told_length x.names (replies_of (number + 1) l)) ∙ ap length told.replied.replies in
+    let ends = ends_told m.names (replies_of (number + 1) k) x.replies.items r (tells.replied.replies ∙ one) in
+    let as_many = ends.many in (
+      ends.last,
+      ends.told,
+      newest_stands (length script) settings.every h k (number + 1) (take n m.operations) ends.front o ends.last tells.extends
+          (tells.replied.calls ∙ ap (λ j. take j (m.operations ++ op.End ∷ [])) many ∙ take_next m.operations (op.End ∷ []) n o at)
+          ends.is
+          (omega (arith, had, shown, as_many)),
+    )

@@ -1,27 +1,24 @@
 -- Names may be renewed where nothing stands behind a draining pause, and then the run is between two epochs again.
 use Rattle.std.proofs.Common.{◌≡◌, ◌≢◌, ℕ, zero, suc, ◌+◌, ◌<◌, ◌≤◌, refl, sym, ap, subst, ◌∙◌, inl, inr, arith, Bool, true, false, List, [], ◌∷◌, ◌++◌, IsTrue, length, length-set, map, nat_eq}
 use Rattle.std.specs.Prelude.{◌&&◌, ◌||◌, Option, Some, None, if◌then◌else◌, is_some, nat_lt, not, option_map, slice_get, slice_set}
-use Rattle.std.specs.List.{AllByRecursion, list_any}
-use Rattle.std.specs.List.Sorted.{IsStrictlySortedBy}
-use Rattle.std.specs.declared.cmp.Ordering.TheVariants.{Less}
-use Rattle.std.proofs.lemmas.Bool.Decides.{eqb_tells, nat_tests}
-use Rattle.std.proofs.lemmas.Bool.{and_parts, not-true, or_cases}
+use Rattle.std.specs.List.{list_any}
+use Rattle.std.proofs.lemmas.Bool.Decides.{eqb_tells}
+use Rattle.std.proofs.lemmas.Bool.{and_parts, not-true}
 use Rattle.std.proofs.lemmas.List.{length-map}
 use Rattle.std.proofs.lemmas.Option.{slice_get-map, slice_get_within}
 use Rattle.lxr_layout.specs.declared.Name.{Name}
 use Rattle.lxr_layout.specs.declared.TheConstants.{MOST_GRANULES}
 use Rattle.lxr_layout.specs.declared.limits.Limits.{Limits}
 use Rattle.lxr_graph.specs.declared.report.Count.{Count}
-use Rattle.lxr_graph.specs.History.{Call, Item, Pause, PauseReport, Renew, report_of}
-use Rattle.lxr_graph.specs.Names.{AreInOrder as InOrder, has, name_order, same_name}
-use Rattle.lxr_graph.proofs.NameSets.{same_names}
+use Rattle.lxr_graph.specs.History.{Call, HasToldCounts, Item, Pause, PauseReport, Renew, report_of}
+use Rattle.lxr_graph.specs.Names.{AreInOrder as InOrder}
 use Rattle.lxr_graph.specs.State.{world_name}
 use Rattle.lxr_image.specs.declared.space.Space.{Space}
 use Rattle.lxr_model.specs.Belongs.{Script}
 use Rattle.lxr_model.specs.Legal.{IsLegalSoFar}
 use Rattle.lxr_model.specs.Moments.{Moment, Trace, moment, renewed_moment}
 use Rattle.lxr_model.specs.Renewing.{IsBehindDraining}
-use Rattle.lxr_model.specs.Reports.{is_draining}
+use Rattle.lxr_model.specs.Reports.{AreCounts, count_entry, is_draining}
 use Rattle.lxr_model.specs.Terms.{Terms}
 use Rattle.lxr_model.proofs.HistoryLemmas.{good_history}
 use Rattle.lxr_invariant.specs.AbstractState.{AbstractState}
@@ -31,6 +28,9 @@ use Rattle.lxr_pause_queue.specs.Entries.{with_told}
 use Rattle.lxr_large_model.specs.Renewing.{AreCounted, counted_name}
 use Rattle.lxr_renew.specs.Renewing.{MayRenew, Renews}
 use Rattle.lxr_renew.proofs.FewLemmas.{unreclaimed_few}
+use Rattle.lxr_renew.proofs.NameLemmas.{begins_with_world}
+use Rattle.lxr_one_pause.specs.Pausing.{IsDrained as HasDrained}
+use Rattle.lxr_one_pause.proofs.TellingLemmas.{counts_reported}
 use Rattle.lxr_core_invariant.specs.Through.{JustPaused}
 use Rattle.lxr_core_invariant.proofs.ShowingLemmas.{set_elsewhere, set_here}
 use Rattle.lxr_mutator.specs.declared.phases.MutEnd.TheVariants as ends
@@ -67,26 +67,17 @@ drained_by terms (Pause report ∷ h) legal paused some drains = record {
   settled = record { same = refl; none_made = refl; none_written = refl };
 }
 
--- ---- what is left, with the world first
+-- the counts of what is unreclaimed at a moment
+abbrev counts_at : Moment → List Count
+counts_at m = map (count_entry m.state m.unreclaimed m.stuck) m.unreclaimed
 
--- nothing comes before the world
-world_first : (n : Name) → name_order n world_name ≡ Less → ⊥
-world_first n h = grind (arith, nat_tests)
-
-after_first : (m : Name) (ms : List Name) → AllByRecursion (λ q. name_order m q ≡ Less) ms → IsTrue (has ms world_name) → ⊥
-after_first m [] all h = absurd (cc)
-after_first m (q ∷ qs) all h = elim (or_cases (same_name world_name q) (has qs world_name) h) [
-  | inl e ↦ world_first m (subst (λ z. name_order m z ≡ Less) (sym (same_names world_name q e)) all.0)
-  | inr k ↦ after_first m qs all.1 k
-]
-
-begins_with_world : (us : List Name) → InOrder us → IsTrue (has us world_name) → (ns : List Name) × (us ≡ world_name ∷ ns)
-unfolding IsStrictlySortedBy
-begins_with_world [] order h = absurd (cc)
-begins_with_world (m ∷ ms) order h = elim (or_cases (same_name world_name m) (has ms world_name) h) [
-  | inl e ↦ (ms, ap (λ z. z ∷ ms) (sym (same_names world_name m e)))
-  | inr k ↦ absurd (after_first m ms order.0 k)
-]
+-- a draining pause with which a history ends has counted that
+counted_by : (terms : Terms) (h : List Item) → IsLegalSoFar terms h → JustPaused h → 1 ≤ (moment terms.threads h).number → IsTrue (is_draining (last_report h).kind) → (last_report h).counts ≡ counts_at (moment terms.threads h)
+counted_by terms [] legal paused some drains = absurd (omega (arith, some))
+counted_by terms (Call t o r ∷ h) legal paused some drains = absurd paused
+counted_by terms (Renew ns ∷ h) legal paused some drains = absurd (omega (arith, some))
+counted_by terms (Pause report ∷ h) legal paused some drains =
+    counts_reported (moment terms.threads h) report (subst (AreCounts (moment terms.threads h) report) drains legal.2.reports.1.counts)
 
 -- ---- actors
 
@@ -266,6 +257,22 @@ module _ (settings : Settings) (script : Script) (space : Space) (actors : List 
       told = counted;
     })
 
+    -- so the counts of the last pause are listed
+    pub told_counts : HasToldCounts listing.report
+    told_counts =
+        let number = come.safepoint.numbers.pauses ∙ ap (λ (m : Moment). m.number) come.stands.moment in
+        let some = some_pauses space.pauses paused.0 in
+        tells.counts (record {
+          holds = come.safepoint.holds;
+          settled = subst IsSettled (sym come.stands.moment) drained.settled;
+          undecremented = amid.between.undecremented;
+          empty = subst (HasDrained space) paused.1 (stands.drained refl);
+        })
+        ∙ ap counts_at come.stands.moment
+        ∙ sym (counted_by (terms_of task) h come.history.0 (stands.paused refl) (omega (arith, number, some)) (subst (λ (r : PauseReport). IsTrue (is_draining r.kind)) reported paused.1))
+        ∙ sym (ap (λ (r : PauseReport). r.counts) reported)
+        ∙ sym (ap (λ (s : Space). s.report.counts.items) tells.space)
+
     -- one entry more than names but the world's
     pub counted_many : length entries ≡ length ns + 1
     counted_many = let all = ap length counted.names in let long = length-map entries counted_name in omega (arith, all, long)
@@ -335,4 +342,5 @@ module _ (settings : Settings) (script : Script) (space : Space) (actors : List 
           between = run_renewed task (with_told space (entries listing tells)) after None actors actors' h g ns (still_amid listing tells)
               (record { renews = refl; behind = drained.behind; untraced = untraced; left = left_names.1; go_on = go_on }) r are;
           live = still_live;
+          told = subst (λ (s : Space). HasToldCounts s.report) (sym renews.space) (told_counts listing tells);
         }

@@ -1,19 +1,39 @@
 -- What follows an epoch of a heap is what follows one of rounds with its settings.
 use Rattle.std.proofs.Common.{◌≡◌, refl, sym, ap, subst, ◌∙◌, inl, inr, Bool, true, false, List, ◌∷◌}
+use Rattle.lxr_layout.specs.declared.TheConstants.{DECREMENT_COUNT}
 use Rattle.std.specs.Prelude.{None}
 use Rattle.lxr_graph.specs.History.{Item, Pause}
 use Rattle.lxr_image.specs.declared.space.Space.{Space}
+use Rattle.lxr_image.specs.Tables.{Tables}
+use Rattle.lxr_image.specs.Spaces.{tables_of}
+use Rattle.lxr_model.specs.Reports.{is_draining}
 use Rattle.lxr_invariant.specs.AbstractState.{AbstractState}
 use Rattle.lxr_core.specs.declared.actors.AnyActor.{AnyActor}
 use Rattle.lxr_core.specs.Actors.{mutators_in}
 use Rattle.lxr_core.specs.Ordering.{orders_of}
 use Rattle.lxr_one_pause.specs.declared.Pace.{Pace}
+use Rattle.lxr_one_pause.specs.Pausing.{IsDrained}
+use Rattle.lxr_placing.specs.Listing.{ListsAll}
 use Rattle.lxr_rounds_invariant.specs.LoopInvariant.{HasRunEpoch, HasRunTo, HaveEnded, Task, pace_of}
 use Rattle.lxr_rounds_invariant.proofs.ActorLemmas.{ends_are_all}
 use Rattle.lxr_rounds.specs.Following.{FollowsEach, HasFollowed}
 use Rattle.lxr_shared_heap.specs.declared.settings.Settings.{Settings}
 use Rattle.lxr_shared_heap.specs.Resting.{HasRested, RestsEach}
 use Rattle.lxr_shared_heap.specs.Settings.{plan_in, run_of}
+use Rattle.lxr_shared_heap.proofs.IdleLemmas.{idle_answers}
+
+-- what is drained is so by a cursor alone
+drained_as : (before after : Space) (b : Bool) → (tables_of after).cursors DECREMENT_COUNT ≡ (tables_of before).cursors DECREMENT_COUNT → IsDrained before b → IsDrained after b
+drained_as before after false same none = tt
+drained_as before after true same none = same ∙ none
+
+-- where nothing was answered behind a pause, listing leaves the space drained that it drained
+drained_listed : (paused answered after : Space) → answered ≡ paused → ListsAll answered after → IsDrained paused (is_draining paused.report.kind) → IsDrained after (is_draining after.report.kind)
+drained_listed paused answered after same lists drained =
+    let kinds = ap (λ (s : Space). is_draining s.report.kind) lists.rest ∙ ap (λ (s : Space). is_draining s.report.kind) same in
+    let cursors : (tables_of after).cursors DECREMENT_COUNT ≡ (tables_of paused).cursors DECREMENT_COUNT =
+    ap (λ (t : Tables). t.cursors DECREMENT_COUNT) lists.tables ∙ ap (λ (s : Space). (tables_of s).cursors DECREMENT_COUNT) same in
+    subst (IsDrained after) (sym kinds) (drained_as paused after (is_draining paused.report.kind) cursors drained)
 
 -- by whether all threads have ended
 rested : (told : List Item → List Item → Type 0) (task : Task) (before after : Space) (earlier actors actors' : List AnyActor) (calls : List Item) (g : AbstractState) (ended : Bool)
@@ -26,6 +46,7 @@ rested told task before after earlier actors actors' calls g true ran last = rec
   stands = subst (λ xs. HasRunTo task after None xs (Pause last.pause.report ∷ calls)) (sym last.same) last.ran;
   asked = ap (λ xs. orders_of (mutators_in xs)) last.same;
   all_ended = λ e. subst (λ xs. HaveEnded (mutators_in xs)) (sym last.same) last.ended;
+  drained = λ none. last.pause.behind.pauses.drained;
 }
 rested told task before after earlier actors actors' calls g false ran next = record {
   report = next.pause.report;
@@ -43,6 +64,9 @@ rested told task before after earlier actors actors' calls g false ran next = re
   stands = (next.abstract_state, next.again.amid);
   asked = next.asked;
   all_ended = λ e. absurd (cc);
+  drained = λ none.
+      let stays = idle_answers (pace_of task.plan) next.collects (mutators_in actors) (mutators_in actors') next.paused next.answered (Pause next.pause.report ∷ calls) next.history (λ i m at waits. none (i, m, at, waits)) next.answers in
+      drained_listed next.paused next.answered after stays.1 next.lists next.pause.behind.pauses.drained;
 }
 
 -- each rounds with the settings of the heap have rested

@@ -18,19 +18,24 @@ use Rattle.lxr_mutator.specs.declared.phases.MutEnd.{MutEnd}
 use Rattle.lxr_mutator.specs.declared.phases.MutatorPhase.{MutatorPhase}
 use Rattle.lxr_mutator.specs.declared.phases.MutatorPhase.TheVariants as phase
 use Rattle.lxr_mutator.specs.Mutating.{Mutating, last_reply, newest_of, reply_in, rests_in}
-use Rattle.lxr_core_invariant.specs.Called.{AreReplies, HasCalled, IsWithinTurn, waiting_in}
+use Rattle.lxr_mutator.specs.Naming.{all_told_as}
+use Rattle.lxr_core_invariant.specs.Called.{HasCalled, IsWithinTurn, waiting_in}
 use Rattle.lxr_core_invariant.specs.Epoch.{IsResting}
 use Rattle.lxr_core_invariant.specs.EpochStates.{Beginning, EpochState, Extends}
-use Rattle.lxr_core_invariant.specs.ThreadStates.{Names, Rests, Stage, ThreadState, Through, Works, all_of}
-use Rattle.lxr_core_sim_mutator.specs.Showing.{reason_by, stage_in, thread_state_of}
+use Rattle.lxr_core_invariant.specs.ThreadStates.{Through, all_of}
+use Rattle.lxr_core_invariant.proofs.RestLemmas.{all_replied, none_waits}
+use Rattle.lxr_core_sim_mutator.specs.Showing.{HasTold, reason_by, stage_in, told_in}
 use Rattle.lxr_core.specs.declared.actors.AnyActor.{AnyActor}
 use Rattle.lxr_core.specs.declared.actors.AnyActor.TheVariants as any
 use Rattle.lxr_core.specs.Actors.{any_machine, mutators_in, script_of}
 use Rattle.lxr_core.specs.Executions.{Execution, HoldsAfter, IsExecution, epoch_state_of, tell_all}
+use Rattle.lxr_core.specs.Ordering.{TellNames}
 use Rattle.lxr_core.proofs.ExecutionLemmas.{epoch_invariant_holds}
 use Rattle.lxr_core.proofs.MappedLemmas.{mapped, mapped_from}
 use Rattle.lxr_core.proofs.OrderLemmas.{mutator_at, mutator_from}
+use Rattle.lxr_core.proofs.LastingLemmas.{names_run}
 use Rattle.lxr_core.proofs.ScriptLemmas.{scripts_go_on}
+use Rattle.lxr_core.proofs.ToldLemmas.{shown_in, shown_told, told_as_kept, told_length, told_state}
 use Rattle.lxr_shared.specs.Sharing.{Sharing}
 use Rattle.lxr_shared_passes.specs.Passing.{IsAt, Passing}
 use Rattle.lxr_rounds_history.specs.Growing.{CallsBeginScript}
@@ -43,7 +48,7 @@ use Rattle.lxr_shared_heap.specs.declared.heap.Stage.{Stage as HeapStage}
 use Rattle.lxr_shared_heap.specs.declared.heap.Stage.TheVariants as stage
 use Rattle.lxr_shared_heap.specs.Heaps.{DoneIsTold, HasOpened, IsPassOf, MutatorsComeFirst, OpenIsTold, StandsFor, StationsTellHistories, told_behind}
 use Rattle.lxr_shared_heap.specs.Settings.{plan_in, run_of}
-use Rattle.lxr_shared_heap.specs.Telling.{EndsByNewest, HasReplied, HaveReplied, TellsAnswer, TellsHistory, newest_reply}
+use Rattle.lxr_shared_heap.specs.Telling.{EndsByNewest, HasReplied, HaveReplied, TellsAnswer, TellsHistory, TellsNewest}
 use Rattle.lxr_shared_heap.specs.Stations.{Stationed, asked, is_mutator, replied}
 use Rattle.lxr_shared_heap.proofs.RecallLemmas.{all_come, newest_recalled}
 use Rattle.lxr_shared_heap.proofs.NewestLemmas.{behind_is, newest_told, told_newest}
@@ -56,28 +61,16 @@ stage_rests m phase.Ready rests = tt
 stage_rests m phase.Finished rests = tt
 stage_rests m p rests = absurd (cc)
 
--- then no operation stands in the history without its reply
-none_waits : (stage : Stage) → IsResting stage → waiting_in stage ≡ 0
-none_waits Rests rests = refl
-none_waits (Through why) rests = refl
-none_waits (Works intent) rests = absurd rests
-none_waits (Names place) rests = absurd rests
-
-all_replied : (b : Beginning) (s : EpochState) (v : ThreadState) (stage : Stage) → IsResting stage → AreReplies b s v stage → replies_of v.thread s.history ≡ v.replies
-all_replied b s v Rests rests are = are
-all_replied b s v (Through why) rests are = are
-all_replied b s v (Works intent) rests are = absurd rests
-all_replied b s v (Names place) rests are = absurd rests
-
 -- so its calls and replies are those of the history
-has_replied : (b : Beginning) (s : EpochState) (m : Mutating) → HasCalled b s (thread_state_of m) → rests_in m.phase ≡ true → HasReplied m.thread s.history m
-has_replied b s m has rests =
+has_replied : (b : Beginning) (s : EpochState) (m : Mutating) → HasTold s.history m → HasCalled b s (told_state s.history m) → rests_in m.phase ≡ true → HasReplied m.thread s.history m
+has_replied b s m told has rests =
     let resting = stage_rests m m.phase rests in
     let none = none_waits (stage_in m m.phase) resting in
+    let many = told_length s.history m told in
     record {
-      calls = has.calls ∙ ap (λ n. take n (all_of m.operations)) (omega (arith, none));
-      replies = all_replied b s (thread_state_of m) (stage_in m m.phase) resting has.replies;
-      ended = λ through. (subst (IsWithinTurn s (thread_state_of m)) (ap (stage_in m) through.0 ∙ ap (λ e. Through (reason_by e)) through.1) has.within_turn).2;
+      calls = has.calls ∙ ap (λ n. take n (all_of m.operations)) (omega (arith, none, many));
+      replies = told_as_kept s.history m told (all_replied b s (told_state s.history m) (stage_in m m.phase) resting has.replies);
+      ended = λ through. sym many ∙ (subst (IsWithinTurn s (told_state s.history m)) (ap (stage_in m) through.0 ∙ ap (λ e. Through (reason_by e)) through.1) has.within_turn).2;
     }
 
 -- mutators that rest behind a history have replied in it
@@ -88,17 +81,18 @@ have_replied task h mutators have i m at = let rests = have.rest.each i m at in 
 
 -- as it opened each one's last unit had ended with its thread's newest reply, if with one, and its replies were those of the history
 opened_newest : (task : Task) (h : List Item) (epoch : Sharing) (open_epoch : HasOpened task h epoch) (i : ℕ) (m : Mutating) → slice_get (mutators_in open_epoch.running.opened.core.actors) i ≡ Some m
-    → EndsByNewest (i + 1) h m × (replies_of (i + 1) h ≡ m.replies.items)
+    → EndsByNewest (i + 1) h m × (all_told_as m.names (replies_of (i + 1) h) ≡ m.replies.items)
 opened_newest task h epoch open_epoch i m at =
     let shows = ap (λ z. slice_get z i) (sym open_epoch.shown) ∙ mapped (λ (m : Mutating). (m.replies.items, m.end)) (mutators_in open_epoch.running.opened.core.actors) i m at in
-    let (x, there, is) = mapped_from (λ (m : Mutating). (m.replies.items, m.end)) (mutators_in open_epoch.actors) i (m.replies.items, m.end) shows in (
-      λ r told. open_epoch.newest i x there r (ap (λ (z : List Reply × Option MutEnd). reply_in z.1) (sym is) ∙ told),
-      (open_epoch.before.actors_rest.mutators.rest.each i x there).replies ∙ ap (λ (z : List Reply × Option MutEnd). z.0) (sym is),
+    let (x, there, is) = mapped_from (λ (m : Mutating). (m.replies.items, m.end)) (mutators_in open_epoch.actors) i (m.replies.items, m.end) shows in
+    let same : m.names ≡ x.names = open_epoch.names i m at ∙ sym (open_epoch.before.actors_rest.mutators.names i x there) in (
+      λ r told. subst (λ b. TellsNewest b (i + 1) h r) (sym same) (open_epoch.newest i x there r (ap (λ (z : List Reply × Option MutEnd). reply_in z.1) (sym is) ∙ told)),
+      ap (λ b. all_told_as b (replies_of (i + 1) h)) same ∙ (open_epoch.before.actors_rest.mutators.rest.each i x there).replies ∙ ap (λ (z : List Reply × Option MutEnd). z.0) (sym is),
     )
 
 -- so it is behind each schedule, for a history that goes on from there and has its replies
 pub ends_newest : (task : Task) (h : List Item) (epoch : Sharing) (open_epoch : HasOpened task h epoch) (threads every : ℕ) (k : List Item) (schedule : List Event) (i : ℕ) (m : Mutating)
-    → slice_get (run any_machine open_epoch.running.opened.core schedule).actors i ≡ Some (any.Mutator m) → Extends threads every h k → replies_of (i + 1) k ≡ m.replies.items → EndsByNewest (i + 1) k m
+    → slice_get (run any_machine open_epoch.running.opened.core schedule).actors i ≡ Some (any.Mutator m) → Extends threads every h k → all_told_as m.names (replies_of (i + 1) k) ≡ m.replies.items → EndsByNewest (i + 1) k m
 ends_newest task h epoch open_epoch threads every k schedule i m at extends replied =
     let (a, was, (x, is, recalls)) = all_come open_epoch.running.opened.core schedule i (any.Mutator m) at in
     let there = mutator_at open_epoch.running.opened.core.actors i x open_epoch.running.holds.1.order (was ∙ ap Some is) in
@@ -106,14 +100,14 @@ ends_newest task h epoch open_epoch threads every k schedule i m at extends repl
     newest_recalled threads every h k (i + 1) x m extends recalls had replied newest
 
 -- what it shows as its newest reply is its thread's
-shown_newest : (t : ℕ) (h : List Item) (m : Mutating) → replies_of t h ≡ m.replies.items → EndsByNewest t h m → (r : Reply) → newest_of m ≡ Some r → newest_reply t h ≡ Some r
+shown_newest : (t : ℕ) (h : List Item) (m : Mutating) → all_told_as m.names (replies_of t h) ≡ m.replies.items → EndsByNewest t h m → (r : Reply) → newest_of m ≡ Some r → TellsNewest m.names t h r
 shown_newest t h m replied newest r is = by_last (last_reply m) refl
   where
-    by_last : (o : Option Reply) → last_reply m ≡ o → newest_reply t h ≡ Some r
+    by_last : (o : Option Reply) → last_reply m ≡ o → TellsNewest m.names t h r
     by_last None none = newest r (sym (ap (λ z. option_or z (reply_in m.end)) none) ∙ is)
     by_last (Some q) last =
         let within = slice_get_within m.replies.items (length m.replies.items - 1) q last in
-        sym (newest_told t h m replied (omega (arith, within))) ∙ is
+        newest_told t h m r replied (omega (arith, within)) is
 
 -- who has replied shows a reply
 shown_none : (m : Mutating) → newest_of m ≡ None → m.replies.items ≡ []
@@ -166,14 +160,18 @@ module _ (settings : Settings) (script : Script) (h : List Item) (epoch : Sharin
   extends = subst (λ n. Extends n settings.every h now.history) (ap (λ (l : Limits). l.threads) open_epoch.before.come.limits) is.epoch.extends
 
   -- what a mutator shows
-  shown : (i : ℕ) (m : Mutating) → slice_get (mutators_in now.core.actors) i ≡ Some m → slice_get state.thread_states i ≡ Some (thread_state_of m)
-  shown i m at = mapped thread_state_of (mutators_in now.core.actors) i m at
+  shown : (i : ℕ) (m : Mutating) → slice_get (mutators_in now.core.actors) i ≡ Some m → slice_get state.thread_states i ≡ Some (told_state now.history m)
+  shown i m at = mapped (shown_in now.history) (mutators_in now.core.actors) i m at ∙ ap Some (shown_told now.history m (is.told i m at))
 
-  called : (i : ℕ) (m : Mutating) → slice_get (mutators_in now.core.actors) i ≡ Some m → HasCalled b state (thread_state_of m)
-  called i m at = is.epoch.called.each i (thread_state_of m) (shown i m at)
+  called : (i : ℕ) (m : Mutating) → slice_get (mutators_in now.core.actors) i ≡ Some m → HasCalled b state (told_state now.history m)
+  called i m at = is.epoch.called.each i (told_state now.history m) (shown i m at)
 
   thread : (i : ℕ) (m : Mutating) → slice_get (mutators_in now.core.actors) i ≡ Some m → m.thread ≡ i + 1
-  thread i m at = is.epoch.called.threads i (thread_state_of m) (shown i m at)
+  thread i m at = is.epoch.called.threads i (told_state now.history m) (shown i m at)
+
+  -- they tell names as the settings say
+  named : TellNames settings.names (mutators_in now.core.actors)
+  named = subst (λ (k : Core AnyActor). TellNames settings.names (mutators_in k.actors)) (sym after.core) (names_run settings.names open_epoch.running.opened.core schedule open_epoch.names)
 
   -- each thread has begun what was asked so far, whether or not its mutator rests
   begun : CallsBeginScript asked_now now.history
@@ -182,7 +180,7 @@ module _ (settings : Settings) (script : Script) (h : List Item) (epoch : Sharin
       let (m, at) = found (mutators_in now.core.actors) (t - 1) (omega (arith, many, low, high)) in
       let own : m.thread ≡ t = thread (t - 1) m at ∙ (omega (arith, low)) in
       let number : t - 1 + 1 ≡ t = omega (arith, low) in
-      let n = length m.replies.items + waiting_in (stage_in m m.phase) in
+      let n = length (told_in now.history m).replies.items + waiting_in (stage_in m m.phase) in
       let calls : calls_of t now.history ≡ take n (all_of m.operations) = subst (λ u. calls_of u now.history ≡ take n (all_of m.operations)) own (called (t - 1) m at).calls in
       let operations : operations_of asked_now t ≡ all_of m.operations =
       subst (λ u. operations_of asked_now u ≡ all_of m.operations) number (operations_at asked_now (mutators_in now.core.actors) (t - 1) m refl at) in
@@ -194,19 +192,20 @@ module _ (settings : Settings) (script : Script) (h : List Item) (epoch : Sharin
   -- there is a mutator for each thread
   pub mutator_of : (number : ℕ) → number < length script → (m : Mutating) × (slice_get now.core.actors number ≡ Some (any.Mutator m))
   mutator_of number less =
-      let many = sym (length-map (mutators_in now.core.actors) thread_state_of) ∙ is.epoch.called.as_many ∙ ap (λ (l : Limits). l.threads) open_epoch.before.come.limits in
+      let many = sym (length-map (mutators_in now.core.actors) (shown_in now.history)) ∙ is.epoch.called.as_many ∙ ap (λ (l : Limits). l.threads) open_epoch.before.come.limits in
       let (m, at) = found (mutators_in now.core.actors) number (omega (arith, many, less)) in
       (m, mutator_from now.core.actors number m is.order at)
 
   pub tells : (number : ℕ) (m : Mutating) → slice_get now.core.actors number ≡ Some (any.Mutator m) → rests_in m.phase ≡ true → TellsHistory settings script h now.history number m
   tells number m there rests =
       let at = mutator_at now.core.actors number m is.order there in
-      let done = subst (λ t. HasReplied t now.history m) (thread number m at) (has_replied b state m (called number m at) rests) in record {
+      let done = subst (λ t. HasReplied t now.history m) (thread number m at) (has_replied b state m (is.told number m at) (called number m at) rests) in record {
         script' = asked_now;
         goes_on = on;
         extends = extends;
         belongs = history;
         asked = mapped (λ (m : Mutating). m.operations) (mutators_in now.core.actors) number m at;
+        names = named number m at;
         replied = done;
         newest = shown_newest (number + 1) now.history m done.replies
             (ends_newest (run_of settings script) h epoch open_epoch (length script) settings.every now.history schedule number m (sym (ap (λ (k : Core AnyActor). slice_get k.actors number) after.core) ∙ there) extends done.replies);
@@ -242,12 +241,15 @@ module _ (settings : Settings) (script : Script) (h : List Item) (epoch : Sharin
       by_kind (any.Mutator m) is =
           let (x, was) = was_mutator m is in
           let tells = pass_tells settings script h epoch open_epoch number q m q_at q_rests is in
-          let told = pass_tells settings script h epoch open_epoch number p x p_at p_rests was in record {
+          let told = pass_tells settings script h epoch open_epoch number p x p_at p_rests was in
+          let (kept, as_told, newest) = told_newest settings script h (now settings script h epoch open_epoch q.seen).history (now settings script h epoch open_epoch p.seen).history number x m o r tells told (sym (ap replied is) ∙ more ∙ ap (λ a. replied a ++ r ∷ []) was)
+          (ap (slice_get m.operations) (ap (λ a. length (replied a)) (sym was)) ∙ sym (ap (λ a. slice_get (asked a) (length (replied p.actor))) is) ∙ at) in record {
             mutator = m;
             is = is;
             tells = tells;
-            newest = told_newest settings script h (now settings script h epoch open_epoch q.seen).history (now settings script h epoch open_epoch p.seen).history number x m o r tells told (sym (ap replied is) ∙ more ∙ ap (λ a. replied a ++ r ∷ []) was)
-                (ap (slice_get m.operations) (ap (λ a. length (replied a)) (sym was)) ∙ sym (ap (λ a. slice_get (asked a) (length (replied p.actor))) is) ∙ at);
+            replied = kept;
+            told = as_told;
+            newest = newest;
           }
       by_kind (any.Decrementer d) is = absurd (let many = ap length more ∙ length-append (replied p.actor) (r ∷ []) in let none : length (replied q.actor) ≡ 0 = ap (λ a. length (replied a)) is in omega (arith, many, none))
       by_kind (any.Tracer d) is = absurd (let many = ap length more ∙ length-append (replied p.actor) (r ∷ []) in let none : length (replied q.actor) ≡ 0 = ap (λ a. length (replied a)) is in omega (arith, many, none))

@@ -23,11 +23,12 @@ use Rattle.lxr_mutator.specs.declared.phases.MutatorPhase.{MutatorPhase}
 use Rattle.lxr_mutator.specs.declared.phases.MutatorPhase.TheVariants as phase
 use Rattle.lxr_mutator.specs.Mutating.{Mutating, is_asked_pause, last_reply, rests_in, wants_pause}
 use Rattle.lxr_mutator.specs.Mutators.{IsThrough}
+use Rattle.lxr_mutator.proofs.NamingLemmas.{ends_told, told_asked}
 use Rattle.lxr_core_invariant.specs.ThreadStates.{Stage, ThreadState, Rests, Through}
 use Rattle.lxr_core_invariant.specs.EpochStates.{Beginning, EpochState, Extends, called, limits_of, same}
 use Rattle.lxr_core_invariant.specs.Called.{AreReplies}
 use Rattle.lxr_core_invariant.specs.Epoch.{IsEpoch, IsResting}
-use Rattle.lxr_core_sim_mutator.specs.Showing.{stage_in, thread_state_of}
+use Rattle.lxr_core_sim_mutator.specs.Showing.{HasTold, stage_in}
 use Rattle.lxr_core.specs.declared.actors.AnyActor.{AnyActor}
 use Rattle.lxr_core.specs.declared.actors.AnyActor.TheVariants as any
 use Rattle.lxr_core.specs.Actors.{mutators_in}
@@ -37,6 +38,7 @@ use Rattle.lxr_core.specs.Executions.{Execution, epoch_state_of}
 use Rattle.lxr_core.proofs.ClosingLemmas.{IsEnd, is_end}
 use Rattle.lxr_core.proofs.CollectingLemmas.{take_one_more}
 use Rattle.lxr_core.proofs.OrderLemmas.{mutator_at, mutator_from}
+use Rattle.lxr_core.proofs.ToldLemmas.{told_as_kept, told_state}
 use Rattle.lxr_shared_heap.specs.Wanting.{HasAsked, IsHeldUp, IsPauseWanted}
 
 -- ---- replies
@@ -160,17 +162,19 @@ replies_told b s v (Through why) rests told = told
 replies_told b s v stage rests told = absurd rests
 
 -- a mutator that asked in the epoch has set the pause word
-word_set : (b : Beginning) (s : EpochState) (i : ℕ) (m : Mutating) → IsEpoch b s → slice_get s.thread_states i ≡ Some (thread_state_of m) → rests_in m.phase ≡ true → IsTrue (wants_pause m) → s.tables.cursors PAUSE_WORD ≡ 1
-word_set b s i m is shown rests wants =
-    let has = is.called.each i (thread_state_of m) shown in
+word_set : (b : Beginning) (s : EpochState) (i : ℕ) (m : Mutating) → IsEpoch b s → HasTold s.history m → slice_get s.thread_states i ≡ Some (told_state s.history m) → rests_in m.phase ≡ true → IsTrue (wants_pause m) → s.tables.cursors PAUSE_WORD ≡ 1
+word_set b s i m is told shown rests wants =
+    let v = told_state s.history m in
+    let has = is.called.each i v shown in
     let (since, last) = tell_both (nat_lt 0 m.since) (is_asked_pause (last_reply m)) wants in
     let (r, there, asks) = the_reply (last_reply m) last in
     let some = ltb-true 0 m.since since in
     let counted = has.counted in
-    let told = replies_told b s (thread_state_of m) (thread_state_of m).stage (stage_rests m m.phase rests) has.replies in
+    let kept = told_as_kept s.history m told (replies_told b s v v.stage (stage_rests m m.phase rests) has.replies) in
+    let last_one = ends_told m.names (replies_of m.thread s.history) (take (length m.replies.items - 1) m.replies.items) r (kept ∙ behind_others m.replies.items r there) in
     has.asked
-    (asked_since (limits_of b).threads b.every m.thread b.history s.history (take (length m.replies.items - 1) m.replies.items) r is.extends (omega (arith, some, counted))
-    (told ∙ behind_others m.replies.items r there) asks)
+    (asked_since (limits_of b).threads b.every m.thread b.history s.history last_one.front last_one.last is.extends (omega (arith, some, counted)) last_one.is
+    (sym (told_asked m.names last_one.last) ∙ ap (λ q. is_asked_pause (Some q)) last_one.told ∙ asks))
 
 -- it can be told whether it has ended
 finished_or_not : (p : MutatorPhase) → rests_in p ≡ true → (p ≡ phase.Finished) ⊎ (p ≢ phase.Finished)
@@ -205,8 +209,10 @@ module _ (b : Beginning) (execution : Execution) (space : Space) (actors : List 
   wanted_by i (any.Mutator m) at (inr asked) =
       let there = mutator_at actors i m end.order at in
       let s = epoch_state_of b execution may.holds.0 in
-      let shown : slice_get s.thread_states i ≡ Some (thread_state_of m) = ap (λ z. slice_get z i) end.thread_states ∙ slice_get-map thread_state_of (mutators_in actors) i ∙ ap (option_map thread_state_of) there in
-      inl (ap (λ (t : Tables). t.cursors PAUSE_WORD) end.tables ∙ word_set b s i m end.epoch shown (may.resting i (any.Mutator m) at) asked)
+      let told = end.told i m there in
+      let shown : slice_get s.thread_states i ≡ Some (told_state s.history m) =
+      ap (λ z. slice_get z i) end.thread_states ∙ slice_get-map (told_state s.history) (mutators_in actors) i ∙ ap (option_map (told_state s.history)) there in
+      inl (ap (λ (t : Tables). t.cursors PAUSE_WORD) end.tables ∙ word_set b s i m end.epoch told shown (may.resting i (any.Mutator m) at) asked)
   wanted_by i (any.Decrementer d) at (inl held) = absurd held
   wanted_by i (any.Decrementer d) at (inr asked) = absurd asked
   wanted_by i (any.Tracer d) at (inl held) = absurd held

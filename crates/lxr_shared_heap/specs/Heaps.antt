@@ -19,8 +19,10 @@ use Rattle.lxr_actor.specs.Run.{run}
 use Rattle.lxr_core.specs.Actors.{any_machine, decrementers_in, mutators_in, script_of, tracers_in}
 use Rattle.lxr_core.specs.Collecting.{given_up}
 use Rattle.lxr_core.specs.Executions.{tell_all}
+use Rattle.lxr_core.specs.Ordering.{TellNames}
 use Rattle.lxr_shared.specs.Sharing.{Sharing}
 use Rattle.lxr_shared_passes.specs.Passing.{IsSeen}
+use Rattle.lxr_one_pause.specs.Telling.{TellsWanted}
 use Rattle.lxr_rounds_invariant.specs.Laws.{beginning_of}
 use Rattle.lxr_rounds_invariant.specs.LoopInvariant.{HasRunTo, IsBetweenEpochs, Task, terms_of}
 use Rattle.lxr_shared_heap.specs.declared.heap.Paused.{Paused}
@@ -39,7 +41,7 @@ use Rattle.lxr_shared_heap.specs.declared.station.Arrival.{Arrival}
 use Rattle.lxr_shared_heap.specs.Arriving.{HasComeHome, IsHandedIn, Tells}
 use Rattle.lxr_shared_heap.specs.Gathering.{HaveEndedFrom}
 use Rattle.lxr_shared_heap.specs.Living.{AreLive}
-use Rattle.lxr_shared_heap.specs.Renewing.{IsRenewalDue}
+use Rattle.lxr_shared_heap.specs.Renewing.{IsRenewalDue, ends_with_renewal}
 use Rattle.lxr_shared_heap.specs.Resting.{GoesOnBehind}
 use Rattle.lxr_shared_heap.specs.Running.{IsRunning, shown_of}
 use Rattle.lxr_shared_heap.specs.Settings.{AreSettings, run_of}
@@ -104,6 +106,7 @@ pub record HasOpened (task : Task) (h : List Item) (epoch : Sharing) : Type 0 wh
   pub workers : length (decrementers_in running.opened.core.actors) ≡ task.plan.workers
   pub tracers : length (tracers_in running.opened.core.actors) ≡ task.plan.workers
   pub live : AreLive (mutators_in running.opened.core.actors)
+  pub names : TellNames task.names (mutators_in running.opened.core.actors)
   pub shown : shown_of (mutators_in running.opened.core.actors) ≡ shown_of (mutators_in actors)
   pub newest : EndByNewest h (mutators_in actors)
 
@@ -115,6 +118,13 @@ StandsFor task h (stage.Within live) = HasOpened task h live.epoch
 StandsFor task h (stage.Ended space actors) = HasRunTo task space None actors.items h
 StandsFor task h stage.Lost = IsHistorySoFar (terms_of task) task.script h
 
+-- where a heap is at rest, its last report lists the counts of its pause, under the old names, where names were renewed behind it, and else none
+abbrev pub TellsRenewed : List Item → Stage → Type 0
+TellsRenewed h (stage.Between space actors) = TellsWanted (ends_with_renewal h) space.report
+TellsRenewed h (stage.Within live) = ⊤
+TellsRenewed h (stage.Ended space actors) = TellsWanted (ends_with_renewal h) space.report
+TellsRenewed h stage.Lost = ⊤
+
 -- the history that these events have led to in an epoch that was opened behind h; h, where none is open
 abbrev pub told_behind : (task : Task) (h : List Item) (at : Stage) → StandsFor task h at → List Event → List Item
 told_behind task h (stage.Between space actors) stands events = h
@@ -123,11 +133,12 @@ told_behind task h (stage.Ended space actors) stands events = h
 told_behind task h stage.Lost stands events = h
 
 -- The heap is that of this script and this history: its mutators were asked for the script by the end of the last epoch that was closed, each for
--- one list of operations, and the history is what happened.
+-- one list of operations, and the history is what happened. Its last report lists counts where names were renewed, and else none.
 pub record IsHeapOf (script : Script) (h : List Item) (heap : Heaped) : Type 0 where
   pub settings : AreSettings heap.settings
   pub threads : length script ≡ heap.settings.mutators
   pub stands : StandsFor (run_of heap.settings script) h heap.stage
+  pub told : TellsRenewed h heap.stage
 
 -- the history of a heap once these events of its epoch have come
 abbrev pub history_behind : (script : Script) (h : List Item) (heap : Heaped) → IsHeapOf script h heap → List Event → List Item
@@ -211,7 +222,8 @@ abbrev pub IsRenewed : Type 0 → List Mutating → Script → List Item → Scr
 IsRenewed Due mutators script h script' h' = ((¬ Due) × (script' ≡ script) × (h' ≡ h)) ⊎ (Due × (names : List Name) × (h' ≡ Renew names ∷ h) × (script' ≡ still_asked mutators))
 
 -- A heap has come to rest behind an epoch that had led to these calls: the pause was made, what waited is answered, and names are renewed exactly where that
--- is due. Before that the replies of each mutator, with those that the pause has answered, are its thread's in the history.
+-- is due. Before that the replies of each mutator, with those that the pause has answered, are its thread's in the history. The last report lists counts
+-- where names were renewed, and else none.
 pub record ComesToRest (settings : Settings) (script : Script) (calls : List Item) (mutators : List Mutating) (now : Stage) : Type 0 where
   pub report : PauseReport
   pub collects : (report.kind ≡ kind.Collect) ↔ MustCollect (terms_of (run_of settings script)) calls
@@ -221,11 +233,13 @@ pub record ComesToRest (settings : Settings) (script : Script) (calls : List Ite
   pub renewed_script : Script
   pub renewed_history : List Item
   pub asked : script_of answered ≡ script
+  pub names : TellNames settings.names answered
   pub replied : HaveReplied history answered
   -- it is legal and belongs to what was asked, also where a renewal begins anew behind it
   pub belongs : IsHistorySoFar (terms_of (run_of settings script)) script history
   pub renewed : IsRenewed (IsRenewalDue (length script) report mutators answered history) answered script history renewed_script renewed_history
   pub stands : StandsFor (run_of settings renewed_script) renewed_history now
+  pub told : TellsRenewed renewed_history now
   pub at_rest : IsAtRest now
 
 -- these are the mutators of the epoch that is open, where these events have led them, but for their logs' entries and what they had drawn
@@ -247,6 +261,7 @@ pub record HasPaused (script : Script) (h : List Item) (before : Heaped) (of : I
   pub mutators : List Mutating
   pub come : HaveCome before.stage schedule mutators
   pub asked : script_of mutators ≡ script'
+  pub names : TellNames before.settings.names mutators
   pub replied : HaveReplied calls mutators
   pub rest : ComesToRest before.settings script' calls mutators after.stage
   pub holds : IsHeapOf rest.renewed_script rest.renewed_history after

@@ -3,7 +3,7 @@ use Rattle.std.specs.Prelude.{◌≡◌, ℕ, ◌<◌, ◌≤◌, ◌/◌, Bool,
 use Rattle.std.specs.List.{list_any}
 use Rattle.lxr_layout.specs.declared.Name.{Name}
 use Rattle.lxr_layout.specs.declared.TheConstants.{MOST_GRANULES}
-use Rattle.lxr_graph.specs.History.{Item, PauseReport, Renew}
+use Rattle.lxr_graph.specs.History.{HasToldCounts, Item, PauseReport, Renew}
 use Rattle.lxr_image.specs.declared.space.Space.{Space}
 use Rattle.lxr_model.specs.Belongs.{Script}
 use Rattle.lxr_model.specs.Moments.{moment}
@@ -16,6 +16,7 @@ use Rattle.lxr_core_invariant.specs.Through.{JustPaused}
 use Rattle.lxr_core.specs.declared.actors.AnyActor.{AnyActor}
 use Rattle.lxr_core.specs.declared.actors.AnyActor.TheVariants as any
 use Rattle.lxr_core.specs.Actors.{mutators_in, script_of}
+use Rattle.lxr_one_pause.specs.Pausing.{IsDrained}
 use Rattle.lxr_rounds_invariant.specs.LoopInvariant.{IsBetweenEpochs}
 use Rattle.lxr_shared_heap.specs.declared.settings.Settings.{Settings}
 use Rattle.lxr_shared_heap.specs.Living.{AreLive}
@@ -33,6 +34,11 @@ pub record IsRenewalDue (threads : ℕ) (report : PauseReport) (before now : Lis
   pub untraced : (moment threads h).trace ≡ None
   pub worn : (i : ℕ) × (m : Mutating) × (slice_get now i ≡ Some m) × (MOST_OPERATIONS / 2 < length m.operations)
   pub unended : (i : ℕ) (m : Mutating) → slice_get now i ≡ Some m → ¬ IsThrough m
+
+-- names were renewed, and nothing has happened since
+abbrev pub ends_with_renewal : List Item → Bool
+ends_with_renewal (Renew names ∷ h) = true
+ends_with_renewal h = false
 
 -- ---- the same as tests
 
@@ -80,19 +86,23 @@ CanActorRenew left a = Unit {0}
 
 -- ---- what becomes of a heap
 
--- between two epochs, with live mutators; and where it is told to be idle, nothing stands behind the last pause
+-- between two epochs, with live mutators; and where it is told to be idle, nothing stands behind the last pause, and where that drained, no decrement
+-- waits
 pub record StandsIdle (settings : Settings) (script : Script) (space : Space) (actors : List AnyActor) (h : List Item) (g : AbstractState) (idle : Bool) : Type 0 where
   pub between : IsBetweenEpochs (run_of settings script) space None actors h g
   pub live : AreLive (mutators_in actors)
   pub paused : IsTrue idle → JustPaused h
+  pub drained : IsTrue idle → IsDrained space (is_draining space.report.kind)
 
--- Names were renewed behind h: it is between two epochs again, and each mutator is asked for what it was asked for and hasn't done.
+-- Names were renewed behind h: it is between two epochs again, and each mutator is asked for what it was asked for and hasn't done. The report of the
+-- pause before has its counts listed, under the old names.
 pub record HasRenewed (settings : Settings) (actors : List AnyActor) (space' : Space) (actors' : List AnyActor) (h : List Item) : Type 0 where
   pub names : List Name
   pub begin_anew : actors' ≡ map (actor_renewed (length names)) actors
   pub abstract_state : AbstractState
   pub between : IsBetweenEpochs (run_of settings (script_of (mutators_in actors'))) space' None actors' (Renew names ∷ h) abstract_state
   pub live : AreLive (mutators_in actors')
+  pub told : HasToldCounts space'.report
 
 -- so it is for each history where names are to be renewed; else nothing changes
 abbrev pub RenewsWhere : Bool → Space → List AnyActor → Bool → Space → List AnyActor → Type 0

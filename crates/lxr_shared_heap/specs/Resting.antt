@@ -5,12 +5,14 @@ use Rattle.lxr_graph.specs.History.{Item, Pause, PauseReport, report_of}
 use Rattle.lxr_image.specs.declared.space.Space.{Space}
 use Rattle.lxr_invariant.specs.AbstractState.{AbstractState}
 use Rattle.lxr_model.specs.Kinds.{MustCollect, ends}
+use Rattle.lxr_model.specs.Reports.{is_draining}
 use Rattle.lxr_mutator.specs.Mutating.{Mutating}
 use Rattle.lxr_core.specs.declared.actors.AnyActor.{AnyActor}
 use Rattle.lxr_core.specs.Actors.{mutators_in}
 use Rattle.lxr_core.specs.Ordering.{orders_of}
+use Rattle.lxr_one_pause.specs.Pausing.{IsDrained}
 use Rattle.lxr_rounds.specs.Answering.{AnswersWaiting}
-use Rattle.lxr_rounds_invariant.specs.LoopInvariant.{HasRunEpoch, HasRunTo, HaveEnded, HaveMutators, IsBetweenEpochs, Task, pace_of, terms_of}
+use Rattle.lxr_rounds_invariant.specs.LoopInvariant.{HasRunEpoch, HasRunTo, HaveEnded, HaveMutators, IsBetweenEpochs, SomeWait, Task, pace_of, terms_of}
 use Rattle.lxr_shared_heap.specs.declared.settings.Settings.{Settings}
 use Rattle.lxr_shared_heap.specs.Settings.{run_of}
 use Rattle.lxr_model.specs.Belongs.{Script}
@@ -45,6 +47,8 @@ pub record HasRested (task : Task) (calls : List Item) (actors : List AnyActor) 
   pub stands : StandsBehind ended task space' actors' history
   pub asked : orders_of (mutators_in actors') ≡ orders_of (mutators_in actors)
   pub all_ended : IsTrue ended → HaveEnded (mutators_in actors')
+  -- where no `new` waited for it and it drained, no decrement waits
+  pub drained : ¬ SomeWait (mutators_in actors) → IsDrained space' (is_draining space'.report.kind)
 
 -- a run with these settings has made an epoch that came to this space and these actors
 abbrev pub HasMadeEpoch : Settings → Space → List AnyActor → Type 0

@@ -1,5 +1,5 @@
 -- An epoch of live mutators: while it runs, and once it is closed.
-use Rattle.std.specs.Prelude.{◌≡◌, ℕ, Option, List, ◌++◌, length, map}
+use Rattle.std.specs.Prelude.{◌≡◌, ℕ, Bool, Option, List, ◌++◌, length, map}
 use Rattle.lxr_graph.specs.declared.Reply.{Reply}
 use Rattle.lxr_actor.specs.declared.Event.{Event}
 use Rattle.lxr_mutator.specs.declared.phases.MutEnd.{MutEnd}
@@ -10,6 +10,7 @@ use Rattle.lxr_core.specs.declared.actors.AnyActor.{AnyActor}
 use Rattle.lxr_core.specs.Actors.{decrementers_in, mutators_in, script_of, tracers_in}
 use Rattle.lxr_core.specs.Closing.{Closes, IsPauseExplained}
 use Rattle.lxr_core.specs.Executions.{Execution, HoldsExecution, tell_all}
+use Rattle.lxr_core.specs.Ordering.{TellNames}
 use Rattle.lxr_shared.specs.Sharing.{Sharing}
 use Rattle.lxr_shared_passes.specs.Passing.{IsSeen, Passing}
 use Rattle.lxr_shared_heap.specs.declared.station.Arrival.{Arrival}
@@ -30,14 +31,15 @@ pub record IsRunning (b : Beginning) (epoch : Sharing) : Type 0 where
   pub core : opened.core ≡ epoch.opening
   pub space_is : epoch.space ≡ record b.space { words = epoch.space.words }
 
--- The actors that it was opened with are these, as they begin again: the mutators were asked for what these were, show what these do, and may be ordered as
--- much; and there are as many helpers.
+-- The actors that it was opened with are these, as they begin again: the mutators were asked for what these were, show what these do, may be ordered as
+-- much, and tell names as these do; and there are as many helpers.
 pub record BeganWith (actors : List AnyActor) (epoch : Sharing) : Type 0 where
   pub script : script_of (mutators_in epoch.opening.actors) ≡ script_of (mutators_in actors)
   pub shown : shown_of (mutators_in epoch.opening.actors) ≡ shown_of (mutators_in actors)
   pub decrementers : length (decrementers_in epoch.opening.actors) ≡ length (decrementers_in actors)
   pub tracers : length (tracers_in epoch.opening.actors) ≡ length (tracers_in actors)
   pub live : AreLive (mutators_in actors) → AreLive (mutators_in epoch.opening.actors)
+  pub names : (b : Bool) → TellNames b (mutators_in actors) → TellNames b (mutators_in epoch.opening.actors)
 
 -- It is closed: what it leaves is what the execution leaves that it was opened with, over some schedule of orders and single atomic steps.
 -- The space is at a safepoint before a pause then, which is explained, for a history that has gone on by calls of the model; and each mutator has

@@ -8,19 +8,19 @@ use Rattle.lxr_rounds_invariant.specs.LoopInvariant.{Task}
 use Rattle.lxr_shared_heap.specs.declared.settings.Settings.{Settings}
 
 -- a number is at least 1 and at most so much
-abbrev pub IsWithin : ℕ → ℕ → Type 0
-IsWithin number most = (1 ≤ number) × (number ≤ most)
+abbrev pub IsInRange : ℕ → ℕ → Type 0
+IsInRange number most = (1 ≤ number) × (number ≤ most)
 
 -- each number is in its range
 pub record AreSettings (settings : Settings) : Type 0 where
-  pub blocks : IsWithin settings.blocks 1024
-  pub mutators : IsWithin settings.mutators 16
-  pub helpers : IsWithin settings.helpers 8
-  pub log : IsWithin settings.log 65536
-  pub remember : IsWithin settings.remember 1048576
-  pub every : IsWithin settings.every 1048576
-  pub trace : IsWithin settings.trace 1000000
-  pub within : IsWithin settings.within 1000000
+  pub blocks : IsInRange settings.blocks 1024
+  pub mutators : IsInRange settings.mutators 16
+  pub helpers : IsInRange settings.helpers 8
+  pub log : IsInRange settings.log 65536
+  pub remember : IsInRange settings.remember 1048576
+  pub every : IsInRange settings.every 1048576
+  pub trace : IsInRange settings.trace 1000000
+  pub within : IsInRange settings.within 1000000
 
 -- what rounds with these settings go by
 abbrev pub plan_in : Settings → Plan
@@ -40,4 +40,4 @@ limits_in settings = plan_limits (plan_in settings) settings.mutators
 
 -- rounds with these settings whose mutators were asked for this so far; names may be renewed
 abbrev pub run_of : Settings → Script → Task
-run_of settings script = record { plan = plan_in settings; renews = true; script = script; seen = None }
+run_of settings script = record { plan = plan_in settings; renews = true; names = settings.names; script = script; seen = None }

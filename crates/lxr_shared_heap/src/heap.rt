@@ -4,11 +4,13 @@ ghost use Rattle.lxr_graph.specs.History.{Item, report_of};
 ghost use Rattle.lxr_model.specs.Belongs.{Script};
 ghost use Rattle.lxr_model.specs.Moments.{moment};
 ghost use Rattle.lxr_invariant.specs.AbstractState.{AbstractState};
+ghost use Rattle.lxr_one_pause.specs.Telling.{TellsWanted};
 ghost use Rattle.lxr_rounds_history.specs.Left.{last_report};
 ghost use Rattle.lxr_rounds_invariant.specs.LoopInvariant.{HasRunEpoch};
 ghost use Rattle.lxr_shared_heap.specs.Heaps.{ComesToRest, DoneIsTold, HeapsHaveHistories, IsAtRest, IsHeapOf, IsKept, IsOpened, IsPassOf, MutatorsComeFirst, OpenIsTold, Pauses, PausesWith, Resumes, StationsTellHistories, most_asked, paused_for, space_at};
 ghost use Rattle.lxr_core.specs.Actors.{mutators_in, script_of};
 ghost use Rattle.lxr_shared_heap.specs.Living.{AreLive};
+ghost use Rattle.lxr_shared_heap.specs.Renewing.{ends_with_renewal};
 ghost use Rattle.lxr_shared_heap.specs.Resting.{HasMadeEpoch};
 ghost use Rattle.lxr_shared_heap.specs.Settings.{AreSettings, run_of};
 ghost use Rattle.lxr_shared_heap.specs.Arriving.{AreArrivalsOf, Tells};
@@ -217,10 +219,11 @@ impl Heap {
     }
 
     /// The report of the last pause: some exactly where no epoch is open, the heap is not lost, and a pause was made.
-    /// Its counts are for proofs alone: a heap lists what is left only where it renews names.
+    /// Its counts are listed where names were renewed behind it, under the old names, and else they are for proofs alone.
     pub fn report(&self) -> Option<&Report>
         ensures some { (script : Script) (h : List Item) → IsHeapOf script h self.now → IsSome result ↔ (IsAtRest self.now.stage × (0 < (last_report h).number)) }
         ensures last { (script : Script) (h : List Item) → IsHeapOf script h self.now → IfSome result (λ report. report_of report.now ≡ last_report h) }
+        ensures told { (script : Script) (h : List Item) → IsHeapOf script h self.now → IfSome result (λ report. TellsWanted (ends_with_renewal h) report.now) }
     {
         report_in(self.stage.at_rest()?)
     }

@@ -1,5 +1,5 @@
 //! What is done between two epochs: the pause, and what waits for it.
-ghost use Rattle.std.specs.Prelude.{None};
+ghost use Rattle.std.specs.Prelude.{◌≡◌, [], None};
 ghost use Rattle.lxr_shared_heap.specs.Resting.{HasMadeEpoch, RestsEach};
 ghost use Rattle.lxr_shared_heap.specs.Settings.{AreSettings};
 
@@ -25,7 +25,7 @@ impl<'a, W: Watch> Watch for Onlooker<'a, W> {
 
 /// Makes the pause behind an epoch, which collects where some mutator has called `collect` in it or all have ended. Where not all have, each
 /// `new` that waits is served or refused, with a collecting pause before one that finds no room, and free lines and blocks are listed for
-/// the next epoch. The watch looks right before and right after each pause. Whether all have ended. It takes no memory.
+/// the next epoch. The watch looks right before and right after each pause. No counts are listed. Whether all have ended. It takes no memory.
 pub(crate) fn rest<W: Watch>(
     space: &mut Space,
     actors: &mut Vec<AnyActor>,
@@ -34,7 +34,8 @@ pub(crate) fn rest<W: Watch>(
 ) -> bool
     requires settings { AreSettings settings }
     requires made { HasMadeEpoch settings space.old actors.old.items }
-    ensures { RestsEach settings space.old actors.old.items space.new actors.new.items result }
+    ensures rests { RestsEach settings space.old actors.old.items space.new actors.new.items result }
+    ensures untold { space.new.report.told.items ≡ [] }
 {
     let mut onlooker = Onlooker { watch };
     match follow_epoch(

@@ -25,6 +25,9 @@ pub struct Settings {
     pub trace: u32,
     /// After so many pauses a trace ends at the latest: 1 to 1,000,000.
     pub within: u32,
+    /// Whether mutators tell the names of what they load and swap out, for which each such operation looks at a header. If not, the name in
+    /// such a reply is `UNNAMED` of `lxr_mutator`.
+    pub names: bool,
 }
 
 impl Settings {

@@ -26,7 +26,8 @@ use std::sync::Arc;
 /// What has come of an operation.
 #[derive(Clone, Copy, Debug, PartialEq, Eq)]
 pub enum Answer {
-    /// It is done, with this reply.
+    /// It is done, with this reply. Where the heap tells no names, that of a `load` or a `swap` that found an object names `UNNAMED` of
+    /// `lxr_mutator`.
     Done(Reply),
     /// It was taken up, and waits for a pause. Behind that `go_on` goes on with it, unless the pause has answered it: then its reply
     /// stands among the actor's.

@@ -2,6 +2,7 @@
 -- first, and then the words from left to right.
 use Rattle.std.specs.Prelude.{ℕ, List, [], ◌∷◌, nat_le, Option, Some, None, Result, Ok, Err, codes, if◌then◌else◌}
 use Rattle.std.specs.Str.{bytes_eq}
+use Rattle.lxr_layout.specs.declared.fields.TheConstants.{MOST_FIELDS}
 use Rattle.lxr_graph.specs.declared.Op.{Op}
 use Rattle.lxr_graph.specs.declared.Op.TheVariants as op
 use Rattle.lxr_text_script.specs.declared.Version.{Version}
@@ -40,13 +41,13 @@ register_at n word = or_fault (fault.Register n) (register_of word)
 unfoldable pub size_at : ℕ → Text → Read ℕ
 size_at n word = do
   size ← number_at n word
-  if nat_le size 1023 then Ok size else Err (fault.Shape n)
+  if nat_le size MOST_FIELDS then Ok size else Err (fault.Shape n)
 
 -- the index of a reference or a data word: a number of at most 1,023
 unfoldable pub index_at : ℕ → Text → Read ℕ
 index_at n word = do
   index ← number_at n word
-  if nat_le index 1023 then Ok index else Err (fault.Field n)
+  if nat_le index MOST_FIELDS then Ok index else Err (fault.Field n)
 
 -- The number of words after an operation's word is its own.
 

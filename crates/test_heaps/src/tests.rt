@@ -14,6 +14,7 @@ const SETTINGS: Settings = Settings {
     every: 100,
     trace: 2,
     within: 2,
+    names: true,
 };
 
 const NIL: Op = Op::Nil { dest: 1 };

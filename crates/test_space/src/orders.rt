@@ -1,5 +1,5 @@
 //! Orders: when a mutator takes an operation, and that it does what it took.
-ghost use Rattle.std.specs.Prelude.{◌≡◌};
+ghost use Rattle.std.specs.Prelude.{◌≡◌, true};
 ghost use Rattle.lxr_mutator.specs.Mutators.{first_live};
 
 use crate::steps::{LIMITS, advance, finish, words_with};
@@ -31,11 +31,11 @@ const REFUSED: &[Op] = &[
     Op::Same { left: 0, right: 16 },
 ];
 
-/// A mutator that does at most 4 operations in an epoch.
+/// A mutator that does at most 4 operations in an epoch, and tells names.
 fn live(rt: &impl Abort, alloc: Global) -> Mutator
-    ensures { result ≡ first_live 1 LIMITS 4 }
+    ensures { result ≡ first_live 1 LIMITS 4 true }
 {
-    Mutator::live(alloc, 1, LIMITS, 4).expect(rt, "memory")
+    Mutator::live(alloc, 1, LIMITS, 4, true).expect(rt, "memory")
 }
 
 #[test]

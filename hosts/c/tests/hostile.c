@@ -412,7 +412,7 @@ static uint64_t pauses_by_news(lxr_heap *heap, uint32_t news) {
     return count_of(heap, LXR_COUNT_PAUSES) - before;
 }
 
-/* A pause comes before the first object that is made once so many bytes were, and the bytes begin anew behind each pause. */
+/* A pause comes before the first object that is made once so many bytes were, and the bytes begin anew after each pause. */
 static void paces(void) {
     lxr_heap heap = LXR_HEAP_INIT;
     IS(open_heap(&heap, 64, 4), LXR_OK);

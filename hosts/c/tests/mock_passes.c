@@ -12,14 +12,19 @@
 #include <stdbool.h>
 #include <stdlib.h>
 
-enum { PASSES = 32, WORLD_REFS = 64, GIVES_UP = 64, FULL = 16, COLLECTS = 4, MOSTLY = 1000 };
+enum { PASSES = 32, WORLD_REFS = 64, FULL = 16, COLLECTS = 4, MOSTLY = 1000 };
+
+/* Of so many operations that may want a pause by themselves one does; hardly any where a test says so. */
+#ifndef MOCK_GIVES_UP
+#define MOCK_GIVES_UP 64u
+#endif
 
 /* Operations that a thread may be ordered from one renewal of names to the next; fewer where a test says so. */
 #ifndef LXR_OPERATIONS
 #define LXR_OPERATIONS 67108864u
 #endif
 
-/* An object. Its references stand behind it, as addresses, and then its data words. */
+/* An object. Its references stand after it, as addresses, and then its data words. */
 struct object {
     struct object *older;
     uint32_t refs, words;
@@ -157,7 +162,7 @@ static lxr_code act(struct heap *heap, struct pass *pass) {
 static lxr_code go_on(struct heap *heap, struct pass *pass) {
     bool wanted = atomic_load(&heap->wanted) != 0;
     pass->lacks = false;
-    if (!wanted && (pass->operation.deed <= SWAP && pass->operation.deed != LOAD) && one_in(pass, GIVES_UP)) {
+    if (!wanted && (pass->operation.deed <= SWAP && pass->operation.deed != LOAD) && one_in(pass, MOCK_GIVES_UP)) {
         atomic_store(&heap->wanted, 1);
         pass->lacks = pass->operation.deed == NEW;
         wanted = true;
@@ -317,7 +322,7 @@ lxr_code lxr_station_close(lxr_station *station) {
     return LXR_OK;
 }
 
-lxr_code lxr_station_wants_pause(lxr_station *station, uint32_t *wants) {
+lxr_code lxr_station_wants_pause(const lxr_station *station, uint32_t *wants) {
     if (!station->live) return LXR_E_NO_HEAP;
     struct post *post = station->block;
     if (!post->pass) return LXR_E_HOME;
@@ -434,7 +439,7 @@ static uint32_t find_most(const struct heap *heap) {
     return most;
 }
 
-/* Renews names, behind a collecting pause that nobody waited for to have room. */
+/* Renews names, after a collecting pause that nobody waited for to have room. */
 static void renew_where_due(struct heap *heap) {
     if (heap->kind != LXR_KIND_COLLECT || heap->waited || find_most(heap) <= LXR_OPERATIONS / 2) return;
     for (size_t at = 0; at < PASSES; at++) heap->passes[at].ordered = heap->passes[at].open;
@@ -456,7 +461,7 @@ lxr_code lxr_passes_pause(lxr_passes *handle) {
     return LXR_OK;
 }
 
-lxr_code lxr_passes_count(lxr_passes *handle, uint32_t what, uint64_t *number) {
+lxr_code lxr_passes_count(const lxr_passes *handle, uint32_t what, uint64_t *number) {
     if (!handle->live) return LXR_E_NO_HEAP;
     const struct heap *heap = handle->block;
     if (what > LXR_COUNT_SWEPT && what != LXR_COUNT_LAST_KIND && what != LXR_COUNT_ASKED) return LXR_E_WHAT;

@@ -206,7 +206,7 @@ static void try_answers(lxr_station *station) {
     REFUSED(lxr_station_answer(station, &wide), LXR_OK);
 }
 
-/* A pause that is asked for: who asked is done, the next operation of each is held or waits, and behind the pause it is answered. */
+/* A pause that is asked for: who asked is done, the next operation of each is held or waits, and after the pause it is answered. */
 static void try_pause(lxr_passes *heap) {
     lxr_station one = { 0, 0 }, other = { 0, 0 };
     IS(lxr_station_leave(heap, 0, &one), LXR_OK);
@@ -239,7 +239,7 @@ static void try_pause(lxr_passes *heap) {
     IS(lxr_station_close(&other), LXR_OK);
 }
 
-/* A thread has had its turn behind so many operations; a closed heap leaves what is away as it is. */
+/* A thread has had its turn after so many operations; a closed heap leaves what is away as it is. */
 static void try_every(lxr_passes *heap) {
     lxr_station station = { 0, 0 };
     IS(lxr_station_leave(heap, 0, &station), LXR_OK);

@@ -89,7 +89,7 @@ static bool waits(struct stage *at) {
     return wanted(at) && out(at, OTHER_THREAD) && lxr_station_same(&at->station, 0, 0, &same) == LXR_E_WAITS;
 }
 
-/* Behind that pause it has no answer yet. */
+/* After that pause it has no answer yet. */
 static bool open(struct stage *at) {
     return waits(at) && done(lxr_station_come_home(&at->station)) && done(lxr_passes_pause(&at->heap)) &&
            done(lxr_passes_resume(&at->heap)) && out(at, OTHER_THREAD);

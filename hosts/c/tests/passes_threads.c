@@ -15,7 +15,7 @@
 
 enum { MUTATORS = 8, VISITS = 400, OPERATIONS = 5, PAUSES = 1000, ALL = 16, TRIES = 64 };
 
-/* The mock of the archive says at random that a heap is full, and makes a pause of its own behind one that leaves something unserved. */
+/* The mock of the archive says at random that a heap is full, and makes a pause of its own after one that leaves something unserved. */
 #ifdef MOCK_PASSES
 static const bool mocked = true;
 #else
@@ -184,7 +184,7 @@ static uint64_t come_and_go(uint32_t threads) {
 
 /* ---- One that stays at home ---- */
 
-/* Takes the pass of a mutator, orders an operation by it, and brings it home; behind a pause it goes on, where it has to wait for one. */
+/* Takes the pass of a mutator, orders an operation by it, and brings it home; after a pause it goes on, where it has to wait for one. */
 static void surely(uint32_t number, lxr_code (*deed)(lxr_station *)) {
     lxr_station station = { 0, 0 };
     lxr_code code = LXR_E_HELD;
@@ -269,7 +269,7 @@ static uint32_t ask_all(struct asker *askers) {
     return replied;
 }
 
-/* One gets it and holds it, and all others are told that the heap is full, each behind a pause that collects for it. */
+/* One gets it and holds it, and all others are told that the heap is full, each after a pause that collects for it. */
 static void try_full(void) {
     struct asker askers[ALL] = { { { 0, 0 }, false, false, LXR_OK } };
     uint32_t made = 0, full = 0;

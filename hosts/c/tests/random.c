@@ -5,7 +5,7 @@
  *
  * A round opens both heaps and makes some ten thousand calls on both; most are sensible, some are wild. Each code and each word that is
  * answered has to be the same. Where the archive says that it is full, the other heap isn't called, and what it can reach has to be enough
- * to leave no room. Behind a collecting pause both have as many objects.
+ * to leave no room. After a collecting pause both have as many objects.
  */
 #include "../plain_heap.h"
 #include "calls.h"

@@ -2,7 +2,7 @@
  * refused.c: what the archive does where memory is refused. SPDX: MIT OR Apache-2.0
  *
  * Linked with -Wl,--wrap=malloc,--wrap=calloc,--wrap=realloc,--wrap=free, so that each request of the archive's comes through here. The
- * Nth request is refused, and all behind it, for N from 0 until none is: an opening then says LXR_E_MEMORY, leaves the handle empty and
+ * Nth request is refused, and all after it, for N from 0 until none is: an opening then says LXR_E_MEMORY, leaves the handle empty and
  * returns what it got; and no other call asks for memory at all.
  */
 #include "../lxr.h"
@@ -137,7 +137,7 @@ static bool is_opened(size_t requests) {
         done(code, "an opening is refused for want of memory that there was");
         memory.granted = memory.asked;
         live(&heap);
-        check(!memory.refused, "a call asks for memory behind the opening");
+        check(!memory.refused, "a call asks for memory after the opening");
         done(lxr_close(&heap), "close");
     } else {
         check(code == LXR_E_MEMORY, "an opening doesn't say that memory was refused");

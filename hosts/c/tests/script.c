@@ -27,7 +27,7 @@
 /* The operations, in the order of `kinds`. */
 enum kind { NEW, LOAD, STORE, PUT, GET, MOVE, NIL, SAME, PAUSE, COLLECT, BIG, BPUT, BGET, KINDS };
 
-/* The word of an operation, and what stands behind it: r a register, s a number of fields, f an index of one, k a number of blocks, b the
+/* The word of an operation, and what stands after it: r a register, s a number of fields, f an index of one, k a number of blocks, b the
  * index of a word of a body, n any number. */
 static const struct {
     const char *word, *parts;
@@ -69,7 +69,7 @@ static _Noreturn void fault(const struct script *script, const char *what) {
     stop(2, "lxr: script line %" PRIu64 ": %s", script->line, what);
 }
 
-/* Reads the whole input, and puts a zero behind it. */
+/* Reads the whole input, and puts a zero after it. */
 static void read_input(struct script *script) {
     size_t length = 0, taken = 0;
     do {

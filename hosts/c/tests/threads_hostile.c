@@ -203,7 +203,7 @@ static void try_fields(lxr_mutator *mutator) {
 
 static void try_counts(lxr_shared_heap *heap) {
     for (uint32_t what = 0; what < 20; what++) {
-        uint32_t known = what <= LXR_COUNT_SWEPT || (what >= LXR_COUNT_COLLECTING && what <= LXR_COUNT_RESTING);
+        uint32_t known = what <= LXR_COUNT_SWEPT || (what >= LXR_COUNT_COLLECTING && what <= LXR_COUNT_LAST_KIND);
         IS(lxr_shared_heap_count(heap, what, &wide), known ? LXR_OK : LXR_E_WHAT);
         if (!known) is_untouched(__LINE__);
         wide = UNTOUCHED;
@@ -234,8 +234,10 @@ static void try_pauses(lxr_shared_heap *heap, lxr_mutator *mutator) {
     uint64_t before = count(heap, LXR_COUNT_PAUSES), collected = count(heap, LXR_COUNT_COLLECTING);
     IS(lxr_mutator_pause(mutator), LXR_OK);
     IS(count(heap, LXR_COUNT_PAUSES) > before, 1);
+    IS(count(heap, LXR_COUNT_LAST_KIND) <= LXR_KIND_COLLECT, 1);
     IS(lxr_mutator_collect(mutator), LXR_OK);
     IS(count(heap, LXR_COUNT_COLLECTING) > collected, 1);
+    IS(count(heap, LXR_COUNT_LAST_KIND), LXR_KIND_COLLECT);
     IS(lxr_mutator_poll(mutator), LXR_OK);
 }
 

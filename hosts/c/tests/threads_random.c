@@ -408,6 +408,7 @@ static lxr_shared_heap_settings draw_settings(uint64_t *dice) {
     settings.helpers = (uint32_t)draw(dice) % 3;
     settings.every = RENEWS ? 20 + (uint32_t)draw(dice) % 100 : draw(dice) % 2 ? 20 + (uint32_t)draw(dice) % 500 : 65536;
     settings.log = draw(dice) % 2 ? 8 : 1024;
+    settings.pace = draw(dice) % 3 == 0 ? LXR_PACE_ROOM : draw(dice) % 2 ? LXR_PACE_NEVER : 1 + draw(dice) % 20000;
     settings.trace = 1 + (uint32_t)draw(dice) % 8;
     settings.within = 1 + (uint32_t)draw(dice) % 4;
     if (now.players > 2 && draw(dice) % 4 == 0) settings.mutators = now.players - 1;

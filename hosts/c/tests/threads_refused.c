@@ -2,8 +2,8 @@
  * threads_refused.c: what a heap that threads share does where memory is refused. SPDX: MIT OR Apache-2.0
  *
  * Linked with -Wl,--wrap=malloc,--wrap=calloc,--wrap=realloc,--wrap=free, so that each request of the library's and the archive's comes
- * through here. The Nth request is refused, and all behind it, for N from 0 until none is: then an opening or an entering says
- * LXR_E_MEMORY, or operations say LXR_E_LOST, behind a pause; the thread can leave, the heap can be closed, and all memory is returned.
+ * through here. The Nth request is refused, and all after it, for N from 0 until none is: then an opening or an entering says
+ * LXR_E_MEMORY, or operations say LXR_E_LOST, after a pause; the thread can leave, the heap can be closed, and all memory is returned.
  */
 #include "../lxr_threads.h"
 

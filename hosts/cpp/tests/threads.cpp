@@ -210,6 +210,18 @@ void errors() {
     CHECK(lxr::error(lxr::errc::rests).code().message() == lxr_message(LXR_E_RESTS));
 }
 
+/// Plain pauses come by bytes of new objects: each has 32.
+void paces() {
+    for (const std::uint64_t pace : {std::uint64_t{LXR_PACE_NEVER}, std::uint64_t{LXR_PACE_ROOM}, std::uint64_t{4096}}) {
+        lxr_shared_heap_settings settings = LXR_SHARED_HEAP_SETTINGS(64, 1);
+        settings.pace = pace;
+        const lxr::shared_heap heap(settings);
+        lxr::mutator self(heap);
+        for (int made = 0; made < 1280; ++made) (void)self.make(1, 1);
+        CHECK(heap.pauses() == (pace == 4096 ? 10 : 0));
+    }
+}
+
 /// Each thread holds as much as there is room for: the heap is full for all of them, and has room again.
 void full_heaps() {
     lxr::shared_heap heap(2, hosts);
@@ -228,6 +240,7 @@ void full_heaps() {
     });
     lxr::mutator self(heap);
     self.collect();
+    CHECK(heap.last_kind() == lxr::pause_kind::collect);
     CHECK(self.try_make(1000, 1000));
 }
 
@@ -241,6 +254,7 @@ int main() {
         resting_threads();
         comings_and_goings();
         errors();
+        paces();
         full_heaps();
     } catch (const std::exception& wrong) {
         std::cerr << wrong.what() << '\n';

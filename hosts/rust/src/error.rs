@@ -1,6 +1,9 @@
 //! What a call may answer other than that it is done.
 
+use std::ffi::CStr;
 use std::fmt;
+
+use kogyulen_sys as raw;
 
 /// Why a call was refused. Then nothing has changed, but that a pause may have been made.
 #[derive(Clone, Copy, Debug, PartialEq, Eq, Hash)]
@@ -40,7 +43,8 @@ impl fmt::Display for Error {
             Error::Number => f.write_str("no place for a further mutator"),
             Error::UsedUp => f.write_str("names are to be renewed first"),
             Error::Lost => f.write_str("the heap is lost for want of memory"),
-            Error::Other(code) => write!(f, "the library answers code {code}"),
+            // SAFETY: it takes any number, and answers a text that stays valid.
+            Error::Other(code) => f.write_str(&unsafe { CStr::from_ptr(raw::lxr_message(*code)) }.to_string_lossy()),
         }
     }
 }
@@ -48,18 +52,32 @@ impl fmt::Display for Error {
 impl std::error::Error for Error {}
 
 /// Reads a code of `lxr.h`.
-pub(crate) fn done(code: u32) -> Result<(), Error> {
+pub(crate) fn done(code: raw::Code) -> Result<(), Error> {
     match code {
-        0 => Ok(()),
-        3 => Err(Error::Register),
-        4 => Err(Error::Size),
-        5 => Err(Error::Nil),
-        6 => Err(Error::Index),
-        7 => Err(Error::Full),
-        8 => Err(Error::Memory),
-        10 => Err(Error::Number),
-        13 => Err(Error::UsedUp),
-        14 => Err(Error::Lost),
+        raw::LXR_OK => Ok(()),
+        raw::LXR_E_REGISTER => Err(Error::Register),
+        raw::LXR_E_SIZE => Err(Error::Size),
+        raw::LXR_E_NIL => Err(Error::Nil),
+        raw::LXR_E_INDEX => Err(Error::Index),
+        raw::LXR_E_FULL => Err(Error::Full),
+        raw::LXR_E_MEMORY => Err(Error::Memory),
+        raw::LXR_E_NUMBER => Err(Error::Number),
+        raw::LXR_E_USED_UP => Err(Error::UsedUp),
+        raw::LXR_E_LOST => Err(Error::Lost),
         other => Err(Error::Other(other)),
+    }
+}
+
+#[cfg(test)]
+mod tests {
+    use super::*;
+
+    /// Each code has its words: those of the crate, or the library's.
+    #[test]
+    fn codes_have_words() {
+        let [what, other] = [raw::LXR_E_WHAT, 99].map(|code| done(code).unwrap_err());
+        assert_eq!((what, what.to_string().as_str()), (Error::Other(raw::LXR_E_WHAT), "no such number"));
+        assert_eq!(other.to_string(), "no such code");
+        assert_eq!(done(raw::LXR_E_FULL).unwrap_err().to_string(), "the heap is full");
     }
 }

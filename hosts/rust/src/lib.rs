@@ -52,13 +52,14 @@ use error::done;
 use kogyulen_sys as raw;
 
 /// The references of the world.
-pub const WORLD_REFS: u32 = 64;
+pub const WORLD_REFS: u32 = raw::LXR_WORLD_REFS;
 
 /// The words of a block of a body.
-pub const BLOCK_WORDS: u32 = 4096;
+pub const BLOCK_WORDS: u32 = raw::LXR_BLOCK_WORDS;
 
 /// How many fields an object has.
 #[derive(Clone, Copy, Debug, PartialEq, Eq, Hash)]
+#[non_exhaustive]
 pub struct Shape {
     /// References.
     pub refs: u32,
@@ -68,13 +69,14 @@ pub struct Shape {
     pub blocks: u32,
 }
 
-/// A heap and its sixteen registers. It has one owner, is freed when that lets go of it, and stays on the thread that opened it.
+/// A heap and its sixteen registers. It has one owner, and is freed when that lets go of it. It may go to another thread, and is used by one at
+/// a time.
 ///
 /// At first [`R0`] holds the world, an object with [`WORLD_REFS`] references that is kept for good, and the other registers are nil.
 ///
 /// ```compile_fail
 /// let heap = kogyulen::Heap::open(&kogyulen::Settings::new(1)).unwrap();
-/// std::thread::spawn(move || drop(heap)); // it isn't `Send`
+/// std::thread::scope(|scope| drop(scope.spawn(|| heap.is_nil(kogyulen::R1)))); // it isn't `Sync`
 /// ```
 ///
 /// ```compile_fail
@@ -85,6 +87,10 @@ pub struct Heap {
     handle: raw::Handle,
 }
 
+// SAFETY: what a handle owns names no thread, by the clause `HandlesCross` of `handles_cross` in the library's crate lxr_c_heap. So any thread may
+// make its calls, where they are ordered: here by who has the heap. Calls at the same time are promised nothing, so it isn't `Sync`.
+unsafe impl Send for Heap {}
+
 impl Heap {
     /// Opens a heap of these settings. All memory that it will ever use is reserved now.
     ///
@@ -92,7 +98,7 @@ impl Heap {
     /// [`Error::Size`] and [`Error::Memory`].
     pub fn open(settings: &Settings) -> Result<Heap, Error> {
         let mut heap = Heap { handle: raw::Handle::EMPTY };
-        // SAFETY: the handle is empty, this thread's, and written by the library alone; so it is in each call below. The settings outlive it.
+        // SAFETY: the handle is empty, in no other call, and written by the library alone; so it is in each call below. The settings outlive it.
         done(unsafe { raw::lxr_open(&mut heap.handle, &settings.raw()) })?;
         Ok(heap)
     }
@@ -257,6 +263,6 @@ pub fn version() -> (u32, u32, u32) {
 }
 
 /// A call on an open heap with registers below 16 is never refused.
-fn sure(code: u32) {
+fn sure(code: raw::Code) {
     debug_assert_eq!(done(code), Ok(()));
 }

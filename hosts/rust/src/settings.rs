@@ -49,15 +49,16 @@ impl Settings {
     }
 }
 
-/// When plain pauses come by themselves, before an object is made.
+/// When plain pauses come by themselves, where objects are made.
 #[derive(Clone, Copy, Debug, PartialEq, Eq, Hash)]
 #[non_exhaustive]
 pub enum Pace {
     /// Never: pauses come where they are asked for or needed.
     Never,
-    /// Once so many bytes of objects were made since the last pause; 0 is never.
+    /// Once so many bytes of objects were made since the last pause; 0 is never. Mutators that share a heap share them too.
     Bytes(u64),
-    /// Once these are half of what the last pause left in wholly free blocks, but at least 64 KB and at most 1 MB.
+    /// Once these are half of what the last pause left in wholly free blocks, but at least 64 KB and at most 1 MB. Of a heap that threads
+    /// share it is half of all its blocks.
     Room,
 }
 
@@ -65,10 +66,10 @@ impl Pace {
     /// The number by which the library knows it: the greatest is that of [`Pace::Room`].
     pub(crate) const fn bytes(self) -> u64 {
         match self {
-            Pace::Never => 0,
-            Pace::Bytes(bytes) if bytes == u64::MAX => u64::MAX - 1,
+            Pace::Never => raw::LXR_PACE_NEVER,
+            Pace::Bytes(bytes) if bytes == raw::LXR_PACE_ROOM => bytes - 1,
             Pace::Bytes(bytes) => bytes,
-            Pace::Room => u64::MAX,
+            Pace::Room => raw::LXR_PACE_ROOM,
         }
     }
 }
@@ -79,19 +80,19 @@ impl Pace {
 #[repr(u32)]
 pub enum Count {
     /// Pauses so far.
-    Pauses = 0,
+    Pauses = raw::LXR_COUNT_PAUSES,
     /// By the last pause: objects made since the pause before that were kept.
-    Promoted = 1,
+    Promoted = raw::LXR_COUNT_PROMOTED,
     /// By the last pause: objects that counts reclaimed.
-    Dead = 2,
+    Dead = raw::LXR_COUNT_DEAD,
     /// By the last pause: objects whose count has reached fifteen, where it stands from now on.
-    Stuck = 3,
+    Stuck = raw::LXR_COUNT_STUCK,
     /// By the last pause: objects that only a collecting pause reclaims.
-    Swept = 4,
+    Swept = raw::LXR_COUNT_SWEPT,
     /// Objects that the last pause left, and those made since; without the world.
-    Live = 5,
+    Live = raw::LXR_COUNT_LIVE,
     /// Wholly free blocks for objects.
-    FreeBlocks = 6,
+    FreeBlocks = raw::LXR_COUNT_FREE_BLOCKS,
     /// Bytes of the free blocks for bodies.
-    FreeBodyBytes = 7,
+    FreeBodyBytes = raw::LXR_COUNT_FREE_BODY_BYTES,
 }

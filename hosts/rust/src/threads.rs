@@ -40,15 +40,17 @@ use std::time::Duration;
 
 use crate::error::{done, Error};
 use crate::register::Register;
+use crate::settings::Pace;
 use kogyulen_sys as raw;
 
 /// What a heap is made of. [`Settings::new`] has settings that mostly do, and each method changes one of them.
 ///
 /// ```
 /// use kogyulen::threads::{Settings, SharedHeap};
+/// use kogyulen::Pace;
 ///
 /// # fn main() -> Result<(), kogyulen::Error> {
-/// let heap = SharedHeap::open(&Settings::new(64, 4).helpers(2).every(4096))?;
+/// let heap = SharedHeap::open(&Settings::new(64, 4).helpers(2).pace(Pace::Bytes(1 << 18)))?;
 /// # Ok(())
 /// # }
 /// ```
@@ -71,12 +73,15 @@ pub struct Settings {
     pub trace: u32,
     /// A trace ends at the latest so many pauses after it began, 1 to 1,000,000.
     pub within: u32,
+    /// When plain pauses come by themselves: a mutator wants one once it has made its share of these bytes since the last, which is all of
+    /// them divided by the mutators that are in the heap.
+    pub pace: Pace,
 }
 
 impl Settings {
     /// Settings that mostly do, for so many blocks and mutators.
     pub const fn new(blocks: u32, mutators: u32) -> Settings {
-        Settings { blocks, mutators, helpers: 1, log: 1024, remember: 65_536, every: 65_536, trace: 16, within: 4 }
+        Settings { blocks, mutators, helpers: 1, log: 1024, remember: 65_536, every: 65_536, trace: 16, within: 4, pace: Pace::Room }
     }
 
     /// So many helpers.
@@ -115,12 +120,19 @@ impl Settings {
         self
     }
 
+    /// Such a pace.
+    pub const fn pace(mut self, pace: Pace) -> Settings {
+        self.pace = pace;
+        self
+    }
+
     fn raw(&self, watch: Option<&Watch>) -> raw::SharedSettings {
-        let &Settings { blocks, mutators, helpers, log, remember, every, trace, within } = self;
+        let &Settings { blocks, mutators, helpers, log, remember, every, trace, within, pace } = self;
+        let pace = pace.bytes();
         let size = size_of::<raw::SharedSettings>() as u64;
         let with = watch.map_or(ptr::null_mut(), |watch| (watch as *const Watch).cast_mut().cast());
         let paused = watch.map(|_| tell_of_pause as extern "C" fn(*mut c_void, *const raw::PauseTimes));
-        raw::SharedSettings { size, blocks, mutators, helpers, log, remember, every, trace, within, paused, with }
+        raw::SharedSettings { size, blocks, mutators, helpers, log, remember, every, trace, within, paused, with, pace }
     }
 }
 
@@ -130,25 +142,55 @@ impl Settings {
 #[repr(u32)]
 pub enum Count {
     /// Pauses so far.
-    Pauses = 0,
+    Pauses = raw::LXR_COUNT_PAUSES,
     /// By the last pause: objects made since the pause before that were kept.
-    Promoted = 1,
+    Promoted = raw::LXR_COUNT_PROMOTED,
     /// By the last pause: objects that counts reclaimed.
-    Dead = 2,
+    Dead = raw::LXR_COUNT_DEAD,
     /// By the last pause: objects whose count has reached fifteen, where it stands from now on.
-    Stuck = 3,
+    Stuck = raw::LXR_COUNT_STUCK,
     /// By the last pause: objects that a trace or a collecting pause reclaimed.
-    Swept = 4,
+    Swept = raw::LXR_COUNT_SWEPT,
     /// Collecting pauses so far.
-    Collecting = 8,
+    Collecting = raw::LXR_COUNT_COLLECTING,
     /// Mutators that are in the heap now.
-    Entered = 9,
+    Entered = raw::LXR_COUNT_ENTERED,
     /// Mutators that are in the heap, and rest now.
-    Resting = 10,
+    Resting = raw::LXR_COUNT_RESTING,
 }
 
-/// How long a pause took; where a collecting one came right behind it, both.
+/// What a pause was.
 #[derive(Clone, Copy, Debug, PartialEq, Eq, Hash)]
+#[non_exhaustive]
+pub enum Kind {
+    /// It went by counts alone.
+    Plain,
+    /// It began a trace besides.
+    Begin,
+    /// It ended a trace, and reclaimed what that found.
+    End,
+    /// It reclaimed all that can't be reached.
+    Collect,
+    /// Another kind of the library. No pause of this version is of one.
+    Other(u64),
+}
+
+impl Kind {
+    /// Reads a kind of `lxr.h`.
+    fn of(number: u64) -> Kind {
+        match number {
+            raw::LXR_KIND_PLAIN => Kind::Plain,
+            raw::LXR_KIND_BEGIN => Kind::Begin,
+            raw::LXR_KIND_END => Kind::End,
+            raw::LXR_KIND_COLLECT => Kind::Collect,
+            other => Kind::Other(other),
+        }
+    }
+}
+
+/// How long a pause took; where a collecting one came right after it, both.
+#[derive(Clone, Copy, Debug, PartialEq, Eq, Hash)]
+#[non_exhaustive]
 pub struct PauseTimes {
     /// Its number, from 1 on; of the last, where there are two.
     pub number: u64,
@@ -156,6 +198,8 @@ pub struct PauseTimes {
     pub gathering: Duration,
     /// From there until they could go on.
     pub pausing: Duration,
+    /// Its kind; that of the last, where there are two.
+    pub kind: Kind,
 }
 
 type Watch = Box<dyn Fn(PauseTimes) + Send + Sync>;
@@ -165,7 +209,8 @@ extern "C" fn tell_of_pause(with: *mut c_void, times: *const raw::PauseTimes) {
     // SAFETY: the library passes what the heap was opened with, which lives as long as the heap, and times that outlive the call.
     let (watch, times) = unsafe { (&*with.cast::<Watch>(), &*times) };
     let [gathering, pausing] = [times.gathering, times.pausing].map(Duration::from_nanos);
-    let told = panic::catch_unwind(AssertUnwindSafe(|| watch(PauseTimes { number: times.number, gathering, pausing })));
+    let times = PauseTimes { number: times.number, gathering, pausing, kind: Kind::of(times.kind) };
+    let told = panic::catch_unwind(AssertUnwindSafe(|| watch(times)));
     if told.is_err() {
         process::abort();
     }
@@ -227,9 +272,18 @@ impl SharedHeap {
 
     /// How many there are of what is counted.
     pub fn count(&self, what: Count) -> u64 {
+        self.told(what as u32)
+    }
+
+    /// The kind of the last pause; [`Kind::Plain`] before the first.
+    pub fn last_kind(&self) -> Kind {
+        Kind::of(self.told(raw::LXR_COUNT_LAST_KIND))
+    }
+
+    fn told(&self, what: u32) -> u64 {
         let mut number = 0;
         // SAFETY: the heap is open.
-        let code = unsafe { raw::lxr_shared_heap_count(self.handle.as_ptr(), what as u32, &mut number) };
+        let code = unsafe { raw::lxr_shared_heap_count(self.handle.as_ptr(), what, &mut number) };
         debug_assert_eq!(done(code), Ok(()));
         number
     }

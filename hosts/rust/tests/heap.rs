@@ -1,6 +1,11 @@
 //! Calls on heaps, and what they answer.
 
-use kogyulen::{Count, Error, Heap, Pace, Register, Settings, Shape, BLOCK_WORDS, R0, R1, R15, R2, R3, WORLD_REFS};
+use kogyulen::{Count, Error, Heap, Pace, Register, Settings, BLOCK_WORDS, R0, R1, R15, R2, R3, WORLD_REFS};
+
+/// The numbers of references, of data words and of blocks of a body.
+fn shape(heap: &Heap, base: Register) -> Option<(u32, u32, u32)> {
+    heap.shape(base).map(|it| (it.refs, it.words, it.blocks))
+}
 
 /// Makes a list of the numbers below an end in R2, the last one first.
 fn make_list(heap: &mut Heap, end: u64) -> Result<(), Error> {
@@ -17,7 +22,7 @@ fn make_list(heap: &mut Heap, end: u64) -> Result<(), Error> {
 #[test]
 fn an_opened_heap_has_the_world_alone() -> Result<(), Error> {
     let heap = Heap::open(&Settings::new(3).body_blocks(2))?;
-    assert_eq!(heap.shape(R0), Some(Shape { refs: WORLD_REFS, words: 0, blocks: 0 }));
+    assert_eq!(shape(&heap, R0), Some((WORLD_REFS, 0, 0)));
     assert!(Register::all().skip(1).all(|register| heap.is_nil(register) && heap.shape(register).is_none()));
     assert_eq!((heap.count(Count::Pauses), heap.count(Count::Live), heap.count(Count::FreeBlocks)), (0, 0, 2));
     assert_eq!(heap.count(Count::FreeBodyBytes), 2 * 8 * u64::from(BLOCK_WORDS));
@@ -45,6 +50,23 @@ fn what_a_register_leads_to_is_kept_and_all_else_reclaimed() -> Result<(), Error
     heap.clear(R2);
     heap.collect();
     assert_eq!((heap.count(Count::Live), heap.count(Count::Dead) + heap.count(Count::Swept)), (0, 200));
+    Ok(())
+}
+
+#[test]
+fn a_heap_goes_to_another_thread_and_back() -> Result<(), Error> {
+    let mut heap = Heap::open(&Settings::new(2))?;
+    make_list(&mut heap, 100)?;
+    let mut heap = std::thread::spawn(move || {
+        heap.collect();
+        heap.put(R2, 0, 7).map(|()| heap)
+    })
+    .join()
+    .unwrap()?;
+    assert_eq!((heap.get(R2, 0), heap.count(Count::Live)), (Ok(7), 100));
+    heap.clear(R2);
+    heap.collect();
+    assert_eq!(heap.count(Count::Live), 0);
     Ok(())
 }
 
@@ -80,7 +102,7 @@ fn what_cannot_be_done_is_told() -> Result<(), Error> {
     assert_eq!(heap.store(R1, u32::MAX, R0), Err(Error::Index));
     assert_eq!(heap.get(R1, 3), Err(Error::Index));
     assert_eq!(heap.body_get(R1, 0), Err(Error::Index));
-    assert_eq!(heap.shape(R1), Some(Shape { refs: 2, words: 3, blocks: 0 }));
+    assert_eq!(shape(&heap, R1), Some((2, 3, 0)));
     assert_eq!(Error::Full.to_string(), "the heap is full");
     Ok(())
 }

@@ -3,8 +3,8 @@
 use std::sync::{Arc, Mutex};
 use std::thread;
 
-use kogyulen::threads::{Count, Mutator, Settings, SharedHeap};
-use kogyulen::{Error, R0, R1, R15, R2, R3, R4};
+use kogyulen::threads::{Count, Kind, Mutator, Settings, SharedHeap};
+use kogyulen::{Error, Pace, R0, R1, R15, R2, R3, R4};
 
 const HOSTS: u32 = 4;
 const ROUNDS: u64 = 20_000;
@@ -146,17 +146,33 @@ fn who_rests_holds_up_no_pause() -> Result<(), Error> {
 }
 
 #[test]
+fn plain_pauses_come_by_the_pace() -> Result<(), Error> {
+    for (pace, pauses) in [(Pace::Bytes(4096), 10), (Pace::Never, 0), (Pace::Bytes(0), 0), (Pace::Bytes(u64::MAX), 0), (Pace::Room, 0)] {
+        let heap = SharedHeap::open(&Settings::new(64, 1).every(1_000_000).pace(pace))?;
+        let mut own = heap.enter()?;
+        for _ in 0..1280 {
+            own.make(R1, 1, 1)?; // 32 bytes
+        }
+        assert_eq!((heap.count(Count::Pauses), heap.count(Count::Collecting)), (pauses, 0));
+    }
+    Ok(())
+}
+
+#[test]
 fn each_pause_is_told() -> Result<(), Error> {
     let told = Arc::new(Mutex::new(Vec::new()));
     let heap = SharedHeap::open_watched(&Settings::new(4, 1), {
         let told = Arc::clone(&told);
         move |times| told.lock().unwrap().push(times)
     })?;
+    assert_eq!(heap.last_kind(), Kind::Plain);
     let mut own = heap.enter()?;
     for _ in 0..5 {
         own.collect()?;
+        assert_eq!(heap.last_kind(), Kind::Collect);
     }
     let told = told.lock().unwrap();
+    assert_eq!(told.iter().filter(|times| times.kind == Kind::Collect).count(), 5);
     assert!(told.len() >= 5 && told.last().map(|times| times.number) == Some(heap.count(Count::Pauses)));
     assert!(told.windows(2).all(|two| two[0].number < two[1].number));
     assert!(told.iter().all(|times| !times.pausing.is_zero()));

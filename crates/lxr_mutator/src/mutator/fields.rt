@@ -10,7 +10,7 @@ ghost use Rattle.lxr_mutator.specs.Steps.{data_word, done_with, is_header, lies_
 ghost use Rattle.lxr_mutator.specs.Mutators.{IsBusy, MayBeIn};
 
 use super::Mutator;
-use crate::operating::{dest_of, found_reply, index_of, indexed_fields};
+use crate::operating::{UNNAMED, dest_of, found_reply, index_of, indexed_fields};
 use crate::phases::{MutatorPhase, Stop};
 use lxr_barrier::{StoreEnd, StoreMachine};
 use lxr_graph::{Op, Reply};
@@ -79,7 +79,7 @@ impl Mutator {
         }
     }
 
-    /// A reference was loaded: its register holds what it refers to, whose name is looked up unless it is nil.
+    /// A reference was loaded: its register holds what it refers to. Who tells names looks its name up, unless it is nil.
     #[inline(always)]
     pub(super) fn keep_reference(&mut self, base: Place, reference: u64)
         requires { IsBusy self.old (MutatorPhase.Reference base) }
@@ -88,8 +88,8 @@ impl Mutator {
         self.hold_reference(reference);
     }
 
-    /// A word was found in the field: where it is a reference, its register holds what it refers to, whose name is looked
-    /// up unless it is nil.
+    /// A word was found in the field: where it is a reference, its register holds what it refers to. Who tells names looks its name up,
+    /// unless it is nil.
     #[inline(always)]
     fn hold_reference(&mut self, reference: u64)
         requires turn { self.old.phase ≢ MutatorPhase.Finished }
@@ -105,8 +105,10 @@ impl Mutator {
         self.set_register(dest_of(op), place);
         if place.0 == 0 {
             self.reply(found_reply(op, None));
-        } else {
+        } else if self.names {
             self.go_on(MutatorPhase::Referent { place });
+        } else {
+            self.reply(found_reply(op, Some(UNNAMED)));
         }
     }
 

@@ -1,12 +1,14 @@
 use Rattle.std.proofs.Common.{◌+◌, ◌*◌, ◌≤◌, ◌∙◌, ap, length, subst, sym, List, ◌∷◌, ℕ}
 use Rattle.std.proofs.lemmas.List.{with_items_is}
 use Rattle.std.specs.Prelude.{Option}
+use Rattle.lxr_graph.specs.declared.report.Report.{Report}
 use Rattle.lxr_graph.specs.History.{Item, Pause, PauseReport, report_of}
 use Rattle.lxr_image.specs.declared.space.Space.{Space}
 use Rattle.lxr_invariant.specs.AbstractState.{AbstractState}
 use Rattle.lxr_core.specs.declared.actors.AnyActor.{AnyActor}
 use Rattle.lxr_core.specs.Actors.{mutators_in}
 use Rattle.lxr_one_pause.specs.declared.Ask.{Ask}
+use Rattle.lxr_one_pause.specs.Telling.{TellsWanted}
 use Rattle.lxr_serve.specs.Serving.{KeepsHelpers}
 use Rattle.lxr_sights.specs.Sights.{Sight}
 use Rattle.lxr_rounds_invariant.specs.LoopInvariant.{HasPaused, Task, done_of}
@@ -72,6 +74,12 @@ answer_waiting-requires-clause-few g c =
     let are = found c.args.actors.now.items _ _ c.have_ended-ended.result c.shall_collect-collects.result c.ask_of-ask.result c.deref.ensures.value c.deref-2.ensures.value c.have_ended-ended.ensures c.shall_collect-collects.ensures c.ask_of-ask.ensures in
     subst (λ (actors : List AnyActor). c.pause.new.space.pauses ≤ 2 * done_of (mutators_in actors) + 1) (sym c.deref_mut.ensures.value) (pauses_few task c.args.pace paced c.args.space.now (g.W.Watch.seen c.args.watch.now) earlier c.args.actors.now.items h m ran c.have_ended-ended.result c.shall_collect-collects.result c.ask_of-ask.result are c.pause.new.space.pauses c.pause.ensures.pauses)
 
+pub answer_waiting-requires-clause-listed : goal.answer_waiting-requires-clause-listed
+answer_waiting-requires-clause-listed g c = subst (λ b. TellsWanted b c.pause.new.space.report) (sym (c.pause.ensures.wants c.pause.new.space.report.kind)) c.pause.ensures.listed
+
+pub returns-in_err-answer_waiting-clause-listed : goal.returns-in_err-answer_waiting-clause-listed
+returns-in_err-answer_waiting-clause-listed g c = subst (λ b. TellsWanted b c.answer_waiting.new.space.report) (c.pause.ensures.wants c.answer_waiting.new.space.report.kind) c.answer_waiting.ensures.listed
+
 pub returns-in_err-answer_waiting-clause-err : goal.returns-in_err-answer_waiting-clause-err
 returns-in_err-answer_waiting-clause-err g c = passed_on _ c.from_residual-in_err-answer_waiting.result c.in_err-answer_waiting.field-0.0 c.from_residual-in_err-answer_waiting.ensures.1 (λ task paced earlier h m ran.
     let are = found c.args.actors.now.items _ _ c.have_ended-ended.result c.shall_collect-collects.result c.ask_of-ask.result c.deref.ensures.value c.deref-2.ensures.value c.have_ended-ended.ensures c.shall_collect-collects.ensures c.ask_of-ask.ensures in
@@ -119,6 +127,11 @@ returns-clause-ok g c = λ task paced earlier h m ran.
     })
     c.list_for_epoch.ensures.lists (λ j k. Tells g.O.Observer.began g.O.Observer.served g.O.Observer.told c.args.observer.now c.args.output.now j c.answer_waiting.new.observer c.answer_waiting.new.output k)
     (tells_on g.O.Observer.began g.O.Observer.served g.O.Observer.told c.args.observer.now c.pause.new.observer c.args.output.now c.pause.new.output h (Pause report ∷ h) first c.answer_waiting.new.observer c.answer_waiting.new.output k tells))
+
+pub returns-clause-listed : goal.returns-clause-listed
+returns-clause-listed g c =
+    subst (λ (r : Report). TellsWanted (g.O.Observer.wants c.args.observer.now r.kind) r) (sym (ap (λ (s : Space). s.report) c.list_for_epoch.ensures.lists.rest))
+    (subst (λ b. TellsWanted b c.answer_waiting.new.space.report) (c.pause.ensures.wants c.answer_waiting.new.space.report.kind) c.answer_waiting.ensures.listed)
 
 pub returns-clause-room : goal.returns-clause-room
 returns-clause-room g c = subst (g.O.Observer.has_room c.answer_waiting.new.observer) (sym (ap (λ (s : Space). s.pauses) c.list_for_epoch.ensures.lists.rest)) c.in_ok-answer_waiting.ensures.room

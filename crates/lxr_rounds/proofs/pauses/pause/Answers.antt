@@ -13,7 +13,7 @@ use Rattle.lxr_one_pause.specs.Pausing.{CanPause, Pauses}
 use Rattle.lxr_rounds_invariant.proofs.PauseLemmas.{can_pause, paused_after, safepoint_by}
 use Rattle.lxr_rounds.specs.Pausing.{MakesPause, with_logs_counted}
 use Rattle.lxr_rounds.proofs.FewLemmas.{next_report}
-use Rattle.lxr_rounds.proofs.TellingLemmas.{counts_told, makes_told, paused_told}
+use Rattle.lxr_rounds.proofs.TellingLemmas.{counts_told, makes_told, paused_told, tells_wanted}
 use Rattle.lxr_rounds.proofs.pauses.pause.Goals as goal
 
 -- the pause is that of the space with what is logged counted
@@ -49,7 +49,7 @@ after_pause-requires-clause-counts g c =
     let (task, h, abstract_state, to) = c.requires.due in
     let can = can_pause task c.args.space.now (g.W.Watch.seen c.args.watch.now) h abstract_state to.come c.requires.counts in
     counts_told c.args.space.now c.one_pause.new.space c.tell_where_wanted.new.space abstract_state c.args.ask c.args.pace (g.O.Observer.wants c.args.observer.now) can
-    (made c.args.ask c.args.pace c.args.space.now c.one_pause.new.space c.len.result c.len.ensures c.one_pause.ensures.pauses) c.tell_where_wanted.ensures.rest c.tell_where_wanted.ensures.told
+    (made c.args.ask c.args.pace c.args.space.now c.one_pause.new.space c.len.result c.len.ensures c.one_pause.ensures.pauses) c.tell_where_wanted.ensures.rest c.tell_where_wanted.ensures.told c.tell_where_wanted.ensures.drains
 
 pub after_pause-requires-clause-next : goal.after_pause-requires-clause-next
 after_pause-requires-clause-next g c = (
@@ -67,10 +67,18 @@ returns-clause-paused g c = λ task h abstract_state to.
     subst (λ n. Looks (g.W.Watch.seen c.args.watch.now) (g.W.Watch.seen c.look.new.self) (sight_of (safepoint_by c.args.space.now n))) c.len.ensures c.look.ensures in
     paused_told c.args.space.now c.one_pause.new.space c.tell_where_wanted.new.space c.tell_where_wanted.ensures.rest task (g.W.Watch.seen c.look-2.new.self) h c.args.ask
     (paused_after task c.args.space.now c.one_pause.new.space (g.W.Watch.seen c.args.watch.now) (g.W.Watch.seen c.look.new.self) (g.W.Watch.seen c.look-2.new.self) h abstract_state to.come to.due c.args.ask to.right at'
-    (subst (λ p. Pauses (with_logs_counted c.args.space.now) c.one_pause.new.space abstract_state at' c.args.ask p) (sym to.paced) pauses) first c.look-2.ensures)
+    (subst (λ p. Pauses (with_logs_counted c.args.space.now) c.one_pause.new.space abstract_state at' c.args.ask p) (sym to.paced) pauses) c.one_pause.ensures.untold first c.look-2.ensures)
 
 pub returns-clause-made : goal.returns-clause-made
 returns-clause-made g c = made_behind c.args.ask c.args.pace c.args.space.now c.one_pause.new.space c.tell_where_wanted.new.space c.len.result c.len.ensures c.one_pause.ensures.pauses c.tell_where_wanted.ensures.rest
+
+pub returns-clause-listed : goal.returns-clause-listed
+returns-clause-listed g c =
+    let (task, h, abstract_state, to) = c.requires.due in
+    let can = can_pause task c.args.space.now (g.W.Watch.seen c.args.watch.now) h abstract_state to.come c.requires.counts in
+    tells_wanted c.one_pause.new.space c.tell_where_wanted.new.space (g.O.Observer.wants c.args.observer.now) c.tell_where_wanted.ensures.rest c.one_pause.ensures.untold c.tell_where_wanted.ensures.quiet
+    (counts_told c.args.space.now c.one_pause.new.space c.tell_where_wanted.new.space abstract_state c.args.ask c.args.pace (g.O.Observer.wants c.args.observer.now) can
+    (made c.args.ask c.args.pace c.args.space.now c.one_pause.new.space c.len.result c.len.ensures c.one_pause.ensures.pauses) c.tell_where_wanted.ensures.rest c.tell_where_wanted.ensures.told c.tell_where_wanted.ensures.drains)
 
 pub returns-clause-tally : goal.returns-clause-tally
 returns-clause-tally g c =

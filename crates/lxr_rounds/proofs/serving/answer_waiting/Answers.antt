@@ -1,10 +1,12 @@
-use Rattle.std.proofs.Common.{Bool, ℕ, refl, subst, List, ◌∷◌, length}
+use Rattle.std.proofs.Common.{Bool, ℕ, refl, sym, subst, ◌∙◌, List, ◌∷◌, length}
+use Rattle.lxr_graph.specs.declared.report.Report.{Report}
 use Rattle.lxr_graph.specs.History.{Item, Pause, PauseReport, report_of}
 use Rattle.lxr_image.specs.declared.space.Space.{Space}
 use Rattle.lxr_invariant.specs.AbstractState.{AbstractState}
 use Rattle.lxr_core.specs.declared.actors.AnyActor.{AnyActor}
 use Rattle.lxr_core.specs.Actors.{mutators_in}
 use Rattle.lxr_one_pause.specs.declared.Ask.TheVariants as ask
+use Rattle.lxr_one_pause.specs.Telling.{TellsWanted}
 use Rattle.lxr_serve.specs.declared.Served.{Served}
 use Rattle.lxr_serve.specs.declared.Served.TheVariants as outcome
 use Rattle.lxr_serve.specs.Answering.{Answers}
@@ -34,6 +36,8 @@ loop-space-init g c =
       serving = λ task paced h m begun. (h, m, begun.serving, λ mutators' space' h' answers. answers, nothing);
       room = c.requires.room;
       helpers = record { order = helpers0.order; same = refl; tracers = refl };
+      wants = λ kind. refl;
+      listed = c.requires.listed;
     }
 
 pub serve_and_tell-requires : goal.serve_and_tell-requires
@@ -91,6 +95,11 @@ returns-in_err-pause-clause-err g c = passed_on _ c.from_residual.result c.in_er
     (c.pause.ensures.paused task k full.abstract_state (comes_to_collect task c.args.pace _ _ _ _ paced c.serve_and_tell.new.space (mutators_in c.serve_and_tell.new.actors) k full))
     (record { observer = c.serve_and_tell.new.observer; output = c.loop-space.output; tells = tells'; fails = c.in_err-pause.ensures.failed }))
 
+pub returns-in_err-pause-clause-listed : goal.returns-in_err-pause-clause-listed
+returns-in_err-pause-clause-listed g c =
+    let kind = c.pause.new.space.report.kind in
+    subst (λ b. TellsWanted b c.pause.new.space.report) (c.serve_and_tell.ensures.wants kind ∙ c.loop-space.invariant.wants kind) c.pause.ensures.listed
+
 pub loop-space-smaller : goal.loop-space-smaller
 loop-space-smaller g c =
     let (task, paced, h, m, begun, helpers) = c.requires.serving in
@@ -124,6 +133,10 @@ loop-space-preserved g c = record {
       );
   room = c.in_ok-pause.ensures.room;
   helpers = keeps_on c.args.actors.now c.loop-space.actors c.serve_and_tell.new.actors c.loop-space.invariant.helpers c.serve_and_tell.ensures.helpers;
+  wants = λ kind. c.pause.ensures.wants kind ∙ c.serve_and_tell.ensures.wants kind ∙ c.loop-space.invariant.wants kind;
+  listed =
+      let kind = c.pause.new.space.report.kind in
+      subst (λ b. TellsWanted b c.pause.new.space.report) (c.serve_and_tell.ensures.wants kind ∙ c.loop-space.invariant.wants kind) c.pause.ensures.listed;
 }
 
 pub returns-clause-ok : goal.returns-clause-ok
@@ -150,6 +163,9 @@ returns-clause-ok g c = λ task paced h m begun.
 
 pub returns-clause-helpers : goal.returns-clause-helpers
 returns-clause-helpers g c = keeps_on c.args.actors.now c.loop-space.actors c.serve_and_tell.new.actors c.loop-space.invariant.helpers c.serve_and_tell.ensures.helpers
+
+pub returns-clause-listed : goal.returns-clause-listed
+returns-clause-listed g c = subst (λ (r : Report). TellsWanted (g.O.Observer.wants c.args.observer.now r.kind) r) (sym c.serve_and_tell.ensures.report) c.loop-space.invariant.listed
 
 pub returns-clause-room : goal.returns-clause-room
 returns-clause-room g c =

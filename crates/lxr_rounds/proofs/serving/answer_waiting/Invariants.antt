@@ -1,7 +1,9 @@
 use Rattle.std.proofs.Common.{◌≡◌, ℕ, ◌+◌, false, List, cond}
+use Rattle.lxr_graph.specs.declared.report.Kind.{Kind}
 use Rattle.lxr_graph.specs.History.{Item}
 use Rattle.lxr_invariant.specs.AbstractState.{AbstractState}
 use Rattle.lxr_core.specs.Actors.{mutators_in}
+use Rattle.lxr_one_pause.specs.Telling.{TellsWanted}
 use Rattle.lxr_serve.specs.Serving.{KeepsHelpers}
 use Rattle.lxr_rounds_invariant.specs.LoopInvariant.{IsServing, Task, left_of, pace_of}
 use Rattle.lxr_rounds.specs.Observing.{Tells}
@@ -19,6 +21,8 @@ invariant-loop-space g l =
           × Tells g.O.Observer.began g.O.Observer.served g.O.Observer.told l.fn.observer l.fn.output h l.observer l.output h';
       room : g.O.Observer.has_room l.observer l.space.pauses;
       helpers : KeepsHelpers l.fn.actors l.actors;
+      wants : (kind : Kind) → g.O.Observer.wants l.observer kind ≡ g.O.Observer.wants l.fn.observer kind;
+      listed : TellsWanted (g.O.Observer.wants l.fn.observer l.space.report.kind) l.space.report;
     }
 
 abbrev pub decreases-loop-space : goal.decreases-loop-space

@@ -6,7 +6,9 @@ use Rattle.lxr_words.specs.declared.Options.{Options}
 use Rattle.lxr_rounds_invariant.specs.LoopInvariant.{pace_of}
 use Rattle.lxr_rounds.specs.Observing.{Tells}
 use Rattle.lxr_rounds.proofs.ResultLemmas.{either_way, ok_both}
+use Rattle.lxr_one_pause.specs.Telling.{TellsWanted}
 use Rattle.lxr_run_history.specs.Run.{plan_of}
+use Rattle.lxr_run_history.specs.Texts.{prints_counts}
 use Rattle.lxr_run_loop.specs.Courses.{AreFew}
 use Rattle.lxr_run_loop.specs.Orders.{IsOrderOf}
 use Rattle.lxr_run_loop.specs.Progress.{HasMadeRound}
@@ -58,7 +60,8 @@ returns-clause-ok g c = IfOk-weaker c.follow_epoch-followed.result _ _
     (λ j k. Tells CountsPlaced NotesServed (TellsReport g.O.Sink.written g.O.Sink.faults) c.take_teller-teller.result c.args.output.now j c.follow_epoch-followed.new.observer c.follow_epoch-followed.new.output k)
     ended c.follow_epoch-followed.new.space (g.O.Sink.written c.follow_epoch-followed.new.output) (g.W.Watch.seen c.follow_epoch-followed.new.watch) c.follow_epoch-followed.new.actors.items c.take_teller-teller.result c.follow_epoch-followed.new.observer
     (followed (rounds_of task) paced c.args.actors.now.items made.history made.abstract_state made.ran) stands
-    (λ k tells. stands_on g.O.Sink.written g.O.Sink.faults task c.take_teller-teller.result c.args.output.now made.history c.follow_epoch-followed.new.observer c.follow_epoch-followed.new.output k tells) few))
+    (λ k tells. stands_on g.O.Sink.written g.O.Sink.faults task c.take_teller-teller.result c.args.output.now made.history c.follow_epoch-followed.new.observer c.follow_epoch-followed.new.output k tells) few
+    (subst (λ (o : Options). TellsWanted (prints_counts o.command o.counts c.follow_epoch-followed.new.space.report.kind) c.follow_epoch-followed.new.space.report) stands.options c.follow_epoch-followed.ensures.listed)))
     (ok_both _ _ c.follow_epoch-followed.result c.follow_epoch-followed.ensures.ok c.follow_epoch-followed.ensures.room)
 
 pub returns-clause-err : goal.returns-clause-err
@@ -74,7 +77,8 @@ returns-clause-err g c = IfErr-weaker c.follow_epoch-followed.result _ _
     let paced = ap (λ (o : Options). pace_of (plan_of o)) with_options ∙ sym c.pace_of.ensures in
     cut_off_by why task c.follow_epoch-followed.new.space (g.O.Sink.written c.follow_epoch-followed.new.output) (g.W.Watch.seen c.follow_epoch-followed.new.watch)
     (was_cut_off g.O.Sink.written g.O.Sink.faults task c.take_teller-teller.result c.args.output.now c.follow_epoch-followed.new.output made.history why c.follow_epoch-followed.new.space (g.W.Watch.seen c.follow_epoch-followed.new.watch)
-    (cuts (rounds_of task) paced c.args.actors.now.items made.history made.abstract_state made.ran) stands))
+    (cuts (rounds_of task) paced c.args.actors.now.items made.history made.abstract_state made.ran) stands
+    (subst (λ (o : Options). TellsWanted (prints_counts o.command o.counts c.follow_epoch-followed.new.space.report.kind) c.follow_epoch-followed.new.space.report) stands.options c.follow_epoch-followed.ensures.listed)))
     c.follow_epoch-followed.ensures.err
 
 pub returns-clause-faults : goal.returns-clause-faults

@@ -14,7 +14,8 @@ use Rattle.lxr_shared_heap.specs.Renewing.{RenewsWhere, StandsIdle, is_renewal_d
 use Rattle.lxr_shared_heap.specs.Resting.{HasRested}
 use Rattle.lxr_shared_heap.specs.Settings.{run_of}
 use Rattle.lxr_shared_heap.proofs.DueLemmas.{due_told, due_tested}
-use Rattle.lxr_shared_heap.proofs.HeapLemmas.{idle_stands, newest_behind, renewed_many, stands_renewed}
+use Rattle.lxr_shared_heap.proofs.HeapLemmas.{idle_stands, newest_behind, renewed_many, stands_renewed, tells_none}
+use Rattle.lxr_shared_heap.proofs.RecallLemmas.{unrenewed_behind}
 use Rattle.lxr_shared_heap.specs.Telling.{EndByNewest}
 use Rattle.lxr_shared_heap.proofs.TellingLemmas.{have_replied}
 use Rattle.lxr_shared_heap.proofs.heap.pause_behind.Goals as goal
@@ -23,7 +24,7 @@ pub renew_where_due-requires : goal.renew_where_due-requires
 renew_where_due-requires g c =
     let (script, before, calls, m, ran) = c.requires.made in
     let more : c.rest.result ≡ false = cc in
-    let rested = subst (HasRested (run_of c.args.settings script) calls c.args.actors.items c.rest.new.space c.rest.new.actors.items) more (c.rest.ensures script before calls m ran) in (
+    let rested = subst (HasRested (run_of c.args.settings script) calls c.args.actors.items c.rest.new.space c.rest.new.actors.items) more (c.rest.ensures.rests script before calls m ran) in (
       c.args.settings,
       script,
       rested.history,
@@ -35,7 +36,7 @@ renew_where_due-requires g c =
 pub returns-then-rest : goal.returns-then-rest
 returns-then-rest g c = λ script before calls m ran newest. (
     let ended : c.rest.result ≡ true = cc in
-    let rested = subst (HasRested (run_of c.args.settings script) calls c.args.actors.items c.rest.new.space c.rest.new.actors.items) ended (c.rest.ensures script before calls m ran) in
+    let rested = subst (HasRested (run_of c.args.settings script) calls c.args.actors.items c.rest.new.space c.rest.new.actors.items) ended (c.rest.ensures.rests script before calls m ran) in
     subst (λ (s : Space). ComesToRest c.args.settings script calls (mutators_in c.args.actors.items) (stage.Ended s c.rest.new.actors)) (sym c.of.ensures)
     (record {
       report = rested.report;
@@ -46,17 +47,20 @@ returns-then-rest g c = λ script before calls m ran newest. (
       renewed_script = script;
       renewed_history = rested.history;
       asked = rested.stands.actors_rest.mutators.script;
+      names = rested.stands.actors_rest.mutators.names;
       replied = have_replied (run_of c.args.settings script) rested.history (mutators_in c.rest.new.actors.items) rested.stands.actors_rest.mutators;
       belongs = whole_so_far (terms_of (run_of c.args.settings script)) script rested.history rested.stands.history.legal rested.stands.history.belongs;
       renewed = inl (λ due. (let (i, m, at, less) = due.worn in due.unended i m at (rested.all_ended refl i m at)), refl, refl);
       stands = rested.stands;
+      told = tells_none rested.history c.rest.new.space
+          (unrenewed_behind (run_of c.args.settings script) rested.report calls (mutators_in c.args.actors.items) (mutators_in c.rest.new.actors.items) rested.history rested.behind) c.rest.ensures.untold;
       at_rest = tt;
     }))
 
 pub returns-else-rest : goal.returns-else-rest
 returns-else-rest g c = λ script before calls m ran newest. (
     let more : c.rest.result ≡ false = cc in
-    let rested = subst (HasRested (run_of c.args.settings script) calls c.args.actors.items c.rest.new.space c.rest.new.actors.items) more (c.rest.ensures script before calls m ran) in
+    let rested = subst (HasRested (run_of c.args.settings script) calls c.args.actors.items c.rest.new.space c.rest.new.actors.items) more (c.rest.ensures.rests script before calls m ran) in
     let idle = not c.some_waits-idle.result in
     let space = c.rest.new.space in
     let actors = c.rest.new.actors.items in
@@ -66,7 +70,8 @@ returns-else-rest g c = λ script before calls m ran newest. (
     let now = newest_behind (run_of c.args.settings script) rested.report calls (mutators_in c.args.actors.items) space actors rested.history rested.stands.0 rested.behind rested.stands.1 newest in
     let tests = c.some_waits-idle.ensures ∙ ap (list_any waits) c.deref.ensures.value in
     let anew = stands_renewed due (due_told c.args.settings script calls c.args.actors.items space actors rested c.some_waits-idle.result tests)
-    (due_tested c.args.settings script calls c.args.actors.items space actors rested c.some_waits-idle.result tests) c.args.settings script rested.history rested.stands.0 space actors idle c.renew_where_due.new.space c.renew_where_due.new.actors stands now renews in
+    (due_tested c.args.settings script calls c.args.actors.items space actors rested c.some_waits-idle.result tests) c.args.settings script rested.history rested.stands.0 space actors idle c.renew_where_due.new.space c.renew_where_due.new.actors stands now renews
+    (unrenewed_behind (run_of c.args.settings script) rested.report calls (mutators_in c.args.actors.items) (mutators_in actors) rested.history rested.behind) c.rest.ensures.untold in
     let many = renewed_many due c.args.settings script rested.history rested.stands.0 space actors idle c.renew_where_due.new.space c.renew_where_due.new.actors stands renews in
     let same = with_items_is c.rest.new.actors c.renew_where_due.new.actors (many ∙ ap length (sym c.deref_mut.ensures.value) ∙ c.deref_mut.ensures.len) in
     subst (λ (s : Space). ComesToRest c.args.settings script calls (mutators_in c.args.actors.items) (stage.Between s (with_items c.rest.new.actors c.renew_where_due.new.actors))) (sym c.of-else-rest.ensures)
@@ -79,6 +84,7 @@ returns-else-rest g c = λ script before calls m ran newest. (
       renewed_script = anew.renewed_script;
       renewed_history = anew.renewed_history;
       asked = rested.stands.1.actors_rest.mutators.script;
+      names = rested.stands.1.actors_rest.mutators.names;
       replied = have_replied (run_of c.args.settings script) rested.history (mutators_in actors) rested.stands.1.actors_rest.mutators;
       belongs = rested.stands.1.come.history;
       renewed = anew.renewed;
@@ -87,5 +93,6 @@ returns-else-rest g c = λ script before calls m ran newest. (
         subst (λ xs. AreLive (mutators_in xs)) (sym same) anew.live,
         subst (λ xs. EndByNewest anew.renewed_history (mutators_in xs)) (sym same) anew.newest,
       );
+      told = anew.told;
       at_rest = tt;
     }))

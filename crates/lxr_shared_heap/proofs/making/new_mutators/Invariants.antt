@@ -4,7 +4,7 @@ use Rattle.lxr_shared_heap.proofs.making.new_mutators.Given as goal
 
 abbrev pub invariant-loop-number : goal.invariant-loop-number
 invariant-loop-number l = record {
-  new : AreNew l.limits l.every l.number l.actors.items;
+  new : AreNew l.limits l.every l.names l.number l.actors.items;
   many : vec_len l.actors ≡ l.number;
   room : l.limits.threads + l.more ≤ vec_capacity l.actors;
 }

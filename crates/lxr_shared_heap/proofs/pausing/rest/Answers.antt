@@ -12,6 +12,9 @@ follow_epoch-requires-clause-ran g c =
     let (script, before, calls, m, ran) = c.requires.made in
     (run_of c.args.settings script, sym c.pace.ensures, before, calls, m, ran)
 
-pub returns : goal.returns
-returns g c =
+pub returns-clause-untold : goal.returns-clause-untold
+returns-clause-untold g c = c.follow_epoch.ensures.listed
+
+pub returns-clause-rests : goal.returns-clause-rests
+returns-clause-rests g c =
     rests_each _ c.args.settings c.pace.result c.args.space.now c.follow_epoch.new.space c.args.actors.now.items c.follow_epoch.new.actors.items c.in-Ok.ended c.pace.ensures c.in-Ok.ensures.ok

@@ -1,21 +1,15 @@
--- What is gained is told from what the position keeps.
-use Rattle.std.proofs.Common.{ap, sym, subst, ◌∙◌}
-use Rattle.std.specs.Prelude.{filter}
-use Rattle.lxr_graph.specs.Names.{AreInOrder, IsSetOf, union, without}
-use Rattle.lxr_model.specs.Dead.{Promoted}
-use Rattle.lxr_judge_report.specs.contracts.position.Position.{the_view}
-use Rattle.lxr_judge_report.specs.Positions.{Present, IsAt}
-use Rattle.lxr_judge_report.specs.Stages.{becomes_stuck}
+-- What becomes stuck is told from what is kept.
+use Rattle.std.proofs.Common.{ap, subst, sym, ◌∙◌}
+use Rattle.lxr_graph.specs.Names.{AreInOrder, union}
+use Rattle.lxr_judge_report.specs.Positions.{Present}
 use Rattle.lxr_judge_report.proofs.ReportLemmas.{gains_are}
 use Rattle.lxr_judge_report.proofs.position.Position.gains.Goals as goal
 
 pub returns : goal.returns
 returns c = λ m at.
-    let p : Present = the_view c.self.inside in
-    let here : IsAt p m = subst (λ q. IsAt q m) (sym c.self.view_is) at in
-    gains_are p m here c.in_ok-old.old c.in_ok-promoted.promoted c.in_ok-kept.kept c.in_ok-newly_stuck.newly_stuck c.in_ok-stuck.stuck
-    (c.in_ok-old.ensures ∙ (λ i. without (c.unreclaimed.ensures i) (c.dead.ensures i)))
-    (subst (λ ns. IsSetOf c.in_ok-promoted.promoted (Promoted p.state ns p.made)) c.names.ensures.names c.in_ok-promoted.ensures)
-    c.in_ok-kept.ensures
-    (c.in_ok-newly_stuck.ensures ∙ ap (λ q. filter (becomes_stuck q c.in_ok-promoted.promoted) c.in_ok-kept.kept) (sym c.self.view_is))
-    (λ order. c.in_ok-stuck.ensures (subst AreInOrder (sym c.stuck.ensures) order) ∙ ap (λ ns. union c.in_ok-newly_stuck.newly_stuck ns) c.stuck.ensures)
+    let parts = c.in_ok-parts.parts in
+    let stuck_was = c.stuck.ensures ∙ ap (λ (p : Present). p.last.stuck) c.self.view_is in
+    gains_are c.args.self.now m at parts.promoted parts.kept c.in_ok-newly_stuck.newly_stuck c.in_ok-stuck.stuck
+    (c.in_ok-parts.ensures m at)
+    c.in_ok-newly_stuck.ensures
+    (λ order. c.in_ok-stuck.ensures (subst AreInOrder (sym stuck_was) order) ∙ ap (λ ns. union c.in_ok-newly_stuck.newly_stuck ns) stuck_was)

@@ -1,18 +1,17 @@
 -- What is kept at the opening.
-use Rattle.std.proofs.Common.{ap, sym, subst, ◌∙◌, map}
+use Rattle.std.proofs.Common.{ap, map}
 use Rattle.lxr_judge_report.specs.Fields.{field_of}
-use Rattle.lxr_judge_report.specs.LastPauses.{TellsState}
 use Rattle.lxr_judge_report.proofs.PauseLemmas.{opened_is_at}
 use Rattle.lxr_judge_report.proofs.position.Position.open.Goals as goal
 
 pub returns : goal.returns
 returns c = opened_is_at _ c.args.threads (record {
-  state = c.graph.view_is ∙ c.in_ok-graph.ensures;
+  state = c.in_ok-graph.ensures;
   number = c.in_ok-last.ensures.number;
-  unreclaimed = c.in_ok-last.ensures.unreclaimed ∙ c.in_ok-unreclaimed.ensures;
-  stuck = c.in_ok-last.ensures.stuck ∙ c.in_ok-stuck.ensures;
+  unreclaimed = c.in_ok-last.ensures.unreclaimed;
+  stuck = c.in_ok-last.ensures.stuck;
   trace = c.in_ok-last.ensures.trace;
-  tells = subst (TellsState c.in_ok-last.last) (sym c.graph.view_is) c.in_ok-last.ensures.state;
-  made = c.in_ok-new.ensures;
-  written = ap (λ ks. map field_of ks) c.new-4.ensures.empty;
+  tells = c.in_ok-last.ensures.state;
+  made = c.in_ok-made.ensures;
+  written = ap (λ ks. map field_of ks) c.new-3.ensures.empty;
 })

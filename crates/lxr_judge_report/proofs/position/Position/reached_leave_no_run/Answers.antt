@@ -1,6 +1,5 @@
 -- The reachable are a set in order, so there is one list of them.
-use Rattle.std.proofs.Common.{ap, sym, subst, ◌∙◌, IsTrue, ◌↔◌}
-use Rattle.lxr_graph.specs.Names.{without}
+use Rattle.std.proofs.Common.{sym, subst, IsTrue, ◌↔◌}
 use Rattle.lxr_model.specs.Full.{LeaveNoRun}
 use Rattle.lxr_judge_report.specs.contracts.position.Position.{the_view}
 use Rattle.lxr_judge_report.specs.Positions.{Present, IsAt}
@@ -13,6 +12,6 @@ returns c = λ m at.
     let here : IsAt p m = subst (λ q. IsAt q m) (sym c.self.view_is) at in
     reached_told p c.in_ok-all.all c.in_ok-others.others c.args.blocks c.args.lines c.leave_no_run.result
     c.in_ok-all.ensures
-    (c.in_ok-others.ensures ∙ ap (λ ns. without c.in_ok-all.all ns) c.in_ok-world_alone.ensures)
+    c.in_ok-others.ensures
     (subst (λ ns. IsTrue c.leave_no_run.result ↔ LeaveNoRun p.state.graph ns c.args.blocks c.args.lines) c.names.ensures.names c.leave_no_run.ensures)
     m here

@@ -5,7 +5,7 @@ use Rattle.lxr_graph.specs.History.{report_of}
 use Rattle.lxr_rounds.proofs.ResultLemmas.{at_err}
 use Rattle.lxr_run_history.specs.Sums.{with_report}
 use Rattle.lxr_run_loop.specs.Courses.{AreFew}
-use Rattle.lxr_run_loop.proofs.TellerLemmas.{printed_drains, totals_few, totals_fit}
+use Rattle.lxr_run_loop.proofs.TellerLemmas.{totals_few, totals_fit}
 use Rattle.lxr_run_loop.proofs.teller.TellerObserver.after_pause.Goals as goal
 
 pub add-requires-clause-room : goal.add-requires-clause-room
@@ -29,7 +29,7 @@ add-requires-clause-stuck_room g c =
     totals_fit (with_report c.args.self.now.totals (report_of c.args.report.now)).stuck (pauses + 1) (totals_few c.args.self.now.totals pauses (report_of c.args.report.now) few is).stuck is.fits
 
 pub tell-requires : goal.tell-requires
-tell-requires g c = record { told = λ prints. c.requires.counts prints (printed_drains c.args.self.now.options.command c.args.self.now.options.counts c.args.report.now.kind prints) }
+tell-requires g c = record { told = c.requires.counts }
 
 pub returns-clause-told : goal.returns-clause-told
 returns-clause-told g c = on_ok_weaker c.tell.result

@@ -56,3 +56,6 @@ loop-pass-preserved c =
                 (subst (All (IsAmong all)) (sym pushed) (All-push (IsAmong all) hand.passes.items pass (of_hands worker hand at) of_last)),
           );
     }
+
+pub returns-clause-each : goal.returns-clause-each
+returns-clause-each c = λ table each. (c.loop-pass.invariant.each table each).1

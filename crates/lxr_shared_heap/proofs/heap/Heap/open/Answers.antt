@@ -3,7 +3,7 @@ use Rattle.std.specs.Prelude.{[], replicate}
 use Rattle.std.proofs.lemmas.List.{length-replicate}
 use Rattle.lxr_image.specs.declared.space.Space.{Space}
 use Rattle.lxr_shared_heap.specs.declared.heap.Stage.TheVariants as stage
-use Rattle.lxr_shared_heap.specs.Heaps.{StandsFor}
+use Rattle.lxr_shared_heap.specs.Heaps.{StandsFor, TellsRenewed}
 use Rattle.lxr_shared_heap.specs.Settings.{run_of}
 use Rattle.lxr_shared_heap.proofs.heap.Heap.open.Goals as goal
 
@@ -15,7 +15,8 @@ invariant_of-result c =
       record {
         settings = c.are_in_range.ensures.0 cc;
         threads = length-replicate c.args.settings.mutators [];
-        stands = subst (λ (s : Space). StandsFor (run_of c.args.settings script) [] (stage.Between s c.in-Ok.actors)) (sym c.of.ensures) c.in-Ok.ensures;
+        stands = subst (λ (s : Space). StandsFor (run_of c.args.settings script) [] (stage.Between s c.in-Ok.actors)) (sym c.of.ensures) c.in-Ok.ensures.between;
+        told = subst (λ (s : Space). TellsRenewed [] (stage.Between s c.in-Ok.actors)) (sym c.of.ensures) c.in-Ok.ensures.untold;
       },
     )
 
@@ -27,6 +28,7 @@ returns-in-Ok-clause-opened c =
       holds = record {
         settings = c.are_in_range.ensures.0 cc;
         threads = length-replicate c.args.settings.mutators [];
-        stands = subst (λ (s : Space). StandsFor (run_of c.args.settings script) [] (stage.Between s c.in-Ok.actors)) (sym c.of.ensures) c.in-Ok.ensures;
+        stands = subst (λ (s : Space). StandsFor (run_of c.args.settings script) [] (stage.Between s c.in-Ok.actors)) (sym c.of.ensures) c.in-Ok.ensures.between;
+        told = subst (λ (s : Space). TellsRenewed [] (stage.Between s c.in-Ok.actors)) (sym c.of.ensures) c.in-Ok.ensures.untold;
       };
     }

@@ -28,6 +28,7 @@ returns-in-Ok c = λ settings. (
           settings = of.settings;
           threads = of.threads;
           stands = has_opened (run_of settings script) h c.into_space.result c.in-Between.actors.items c.in-Ok.live.epoch amid stands.1 stands.2 c.in-Ok.ensures.runs c.in-Ok.ensures.actors;
+          told = tt;
         });
   },
 )

@@ -4,10 +4,11 @@ use Rattle.lxr_actor.specs.Run.{AlwaysFits, core_of}
 use Rattle.lxr_core.specs.Actors.{any_machine}
 use Rattle.lxr_core.specs.Closing.{AreResting}
 use Rattle.lxr_core.specs.Opening.{Begins, MayOpen, Opens}
+use Rattle.lxr_core.proofs.AgainLemmas.{started_rest}
 use Rattle.lxr_core.proofs.OpenedLemmas.{may_open}
 use Rattle.lxr_shared.specs.Ends.{HaveEnds}
 use Rattle.lxr_shared.proofs.Openings.{opened_have_ends}
-use Rattle.lxr_shared_heap.proofs.EpochLemmas.{began_with, fits_always, is_running, started_many, started_rest}
+use Rattle.lxr_shared_heap.proofs.EpochLemmas.{began_with, fits_always, is_running, started_many}
 use Rattle.lxr_shared_heap.proofs.live.Live.open.Goals as goal
 
 pub open_epoch-requires : goal.open_epoch-requires

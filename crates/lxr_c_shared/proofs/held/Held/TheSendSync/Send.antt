@@ -1,0 +1,22 @@
+-- What a holder of an address owns is a box, or nothing, and neither names a thread.
+use base.Shift.{Keyless}
+use mir.Raw.{raw}
+use denote.Memory.{lone}
+use denote.RawPtr.{Ptr}
+use denote.Param.Send.{IsSend, owning_send, sendable}
+use Rattle.std.specs.declared.option.Option.TheVariants.{None, Some}
+use Rattle.std.specs.Global.{Global}
+use Rattle.std.proofs.Crossing.{frees}
+use Rattle.std.proofs.alloc.Global.TheSendSync as global
+use Rattle.std_alloc.proofs.SendSync.{lies}
+use Rattle.lxr_c_shared.specs.contracts.held.Held.{the_row, the_type}
+use Rattle.lxr_c_shared.specs.contracts.owned.Owned as Owned
+use Rattle.lxr_c_shared.specs.Holding.{MayHold, held_owns}
+use Rattle.lxr_c_shared.proofs.owned.Owned.TheSendSync as owned
+
+owns_keyless : (a : Global) (p : Ptr) (k : MayHold) → Keyless (held_owns a p k)
+owns_keyless a p None = tt
+owns_keyless a p (Some x) = (lies Owned.the_row owned.the_send p x, frees.frees a (raw (lone Owned.the_row.mir)) p)
+
+pub send : IsSend the_row
+send = owning_send the_type (search sendable, (global.the_field_send, tt)) (λ d. owns_keyless d.alloc d.ptr d.value) (λ k x w. tt)
