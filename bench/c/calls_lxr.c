@@ -31,6 +31,76 @@ static void open_heap(uint32_t blocks, uint32_t body_blocks, uint64_t pace) {
 
 static uint64_t pace_of(const char *every) { return strcmp(every, "room") == 0 ? LXR_PACE_ROOM : strtoull(every, NULL, 10) * OBJECT_BYTES; }
 
+/* ---- Several at once, beside the single calls that each stands for ---- */
+
+enum { SOME_WORDS = 16, SOME_REFS = 8 };
+
+static const uint32_t some_registers[SOME_REFS] = { 8, 9, 10, 11, 12, 13, 14, 15 }, sources[2] = { OTHER, SPARE };
+static uint64_t some_words[SOME_WORDS];
+
+static void new_by_each(void) {
+    lxr_new(&heap, MADE, 2, 2);
+    for (uint32_t at = 0; at < 2; at++) lxr_store(&heap, MADE, at, sources[at]);
+    for (uint32_t at = 0; at < 2; at++) lxr_put(&heap, MADE, at, some_words[at]);
+}
+
+static void get_each(void) {
+    for (uint32_t at = 0; at < SOME_WORDS; at++) lxr_get(&heap, OBJECT, at, &some_words[at]);
+}
+
+static void put_each(void) {
+    for (uint32_t at = 0; at < SOME_WORDS; at++) lxr_put(&heap, OBJECT, at, some_words[at]);
+}
+
+static void load_each(void) {
+    for (uint32_t at = 0; at < SOME_REFS; at++) lxr_load(&heap, some_registers[at], OBJECT, at);
+}
+
+static void store_each(void) {
+    for (uint32_t at = 0; at < SOME_REFS; at++) lxr_store(&heap, OBJECT, at, some_registers[at]);
+}
+
+/* What the row of eight operations below does. */
+static void do_each(void) {
+    uint32_t answer = 0;
+    lxr_get(&heap, OBJECT, 0, &some_words[0]);
+    lxr_put(&heap, OBJECT, 1, 7);
+    lxr_load(&heap, MADE, OBJECT, 0);
+    lxr_store(&heap, OBJECT, 1, MADE);
+    lxr_same(&heap, MADE, OTHER, &answer);
+    lxr_move(&heap, SPARE, MADE);
+    lxr_is_nil(&heap, SPARE, &answer);
+    lxr_nil(&heap, SPARE);
+}
+
+static void measure_several(void) {
+    static lxr_operation row[8] = {
+        { LXR_OP_GET, OBJECT, 0, 0, 0 },      { LXR_OP_PUT, OBJECT, 1, 0, 7 },    { LXR_OP_LOAD, MADE, OBJECT, 0, 0 },
+        { LXR_OP_STORE, OBJECT, 1, MADE, 0 }, { LXR_OP_SAME, MADE, OTHER, 0, 0 }, { LXR_OP_MOVE, SPARE, MADE, 0, 0 },
+        { LXR_OP_IS_NIL, SPARE, 0, 0, 0 },    { LXR_OP_NIL, SPARE, 0, 0, 0 },
+    };
+    size_t done = 0;
+    must(lxr_new(&heap, OBJECT, SOME_REFS, SOME_WORDS));
+    for (uint32_t at = 0; at < SOME_REFS; at++) must(lxr_store(&heap, OBJECT, at, OTHER));
+    must(lxr_set_pace(&heap, 10000 * OBJECT_BYTES));
+    MEASURE("lxr_new_with, 2 references and 2 words", 5, 1000000, lxr_new_with(&heap, MADE, sources, 2, some_words, 2));
+    MEASURE("  by lxr_new, two lxr_store and two lxr_put", 5, 1000000, new_by_each());
+    must(lxr_set_pace(&heap, LXR_PACE_NEVER));
+    must(lxr_pause(&heap));
+    MEASURE("lxr_get_many, 16 words", 50, 20000, lxr_get_many(&heap, OBJECT, 0, some_words, SOME_WORDS));
+    MEASURE("  by lxr_get", 50, 20000, get_each());
+    MEASURE("lxr_put_many, 16 words", 50, 20000, lxr_put_many(&heap, OBJECT, 0, some_words, SOME_WORDS));
+    MEASURE("  by lxr_put", 50, 20000, put_each());
+    MEASURE("lxr_load_many, 8 references", 50, 20000, lxr_load_many(&heap, OBJECT, 0, some_registers, SOME_REFS));
+    MEASURE("  by lxr_load", 50, 20000, load_each());
+    MEASURE("lxr_store_many, 8 references", 50, 20000, lxr_store_many(&heap, OBJECT, 0, some_registers, SOME_REFS));
+    MEASURE("  by lxr_store", 50, 20000, store_each());
+    MEASURE("lxr_apply, 8 operations", 50, 20000, lxr_apply(&heap, row, 8, &done));
+    MEASURE("  by eight calls", 50, 20000, do_each());
+}
+
+/* ---- All calls ---- */
+
 static void measure_calls(void) {
     static uint64_t words[LXR_BLOCK_WORDS];
     uint64_t word = 0;
@@ -64,7 +134,7 @@ static void measure_calls(void) {
     MEASURE("lxr_new of 4 words, dropped at once", 5, 1000000, lxr_new(&heap, MADE, 2, 2));
     must(lxr_set_pace(&heap, 10000 * OBJECT_BYTES));
     MEASURE("lxr_new of 4 words, dropped at once, a pause every 10,000", 5, 1000000, lxr_new(&heap, MADE, 2, 2));
-    must(lxr_set_pace(&heap, LXR_PACE_NEVER));
+    measure_several();
     MEASURE("lxr_large_new of one block, dropped at once", 20, 1000, lxr_large_new(&heap, BODY, 1));
     must(lxr_close(&heap));
 }

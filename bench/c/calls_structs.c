@@ -14,6 +14,12 @@ struct object {
     uint64_t words[2];
 };
 
+/* What several fields are read from and written to at once. */
+struct row {
+    struct object *refs[8];
+    uint64_t words[16];
+};
+
 static struct object *registers[16];
 static struct object ***top;
 
@@ -51,6 +57,27 @@ static void *make(size_t bytes) {
 static void release(void *old) { free(old); }
 #endif
 
+static struct object *make_with(struct object *left, struct object *right, const uint64_t *words) {
+    struct object *made = make(sizeof *made);
+    made->refs[0] = left;
+    made->refs[1] = right;
+    memcpy(made->words, words, sizeof made->words);
+    return made;
+}
+
+/* Several at once: copies, between the object and the registers or words of the program. */
+static void measure_several(void) {
+    static uint64_t words[16];
+    struct row *row = make(sizeof *row);
+    MEASURE("lxr_new_with, 2 references and 2 words", 5, 1000000, release(registers[6]);
+            registers[6] = make_with(registers[2], registers[3], words));
+    MEASURE("lxr_get_many, 16 words", 50, 20000, memcpy(words, row->words, sizeof words));
+    MEASURE("lxr_put_many, 16 words", 50, 20000, memcpy(row->words, words, sizeof words));
+    MEASURE("lxr_load_many, 8 references", 50, 20000, memcpy(registers + 8, row->refs, sizeof row->refs));
+    MEASURE("lxr_store_many, 8 references", 50, 20000, memcpy(row->refs, registers + 8, sizeof row->refs));
+    release(row);
+}
+
 static void measure_calls(void) {
     uint64_t word = 0;
     begin(0);
@@ -64,6 +91,7 @@ static void measure_calls(void) {
     MEASURE_CALL("lxr_nil", registers[5] = NULL);
     MEASURE_CALL("lxr_is_nil", word = registers[5] == NULL);
     MEASURE("lxr_new of 4 words, dropped at once", 5, 1000000, release(registers[6]); registers[6] = make(sizeof(struct object)));
+    measure_several();
     __asm__ volatile("" ::"r"(word));
 }
 

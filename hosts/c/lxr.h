@@ -10,13 +10,12 @@
  * is an object.
  *
  * Each function but lxr_version and lxr_message takes a heap and answers a CODE. LXR_OK is 0. At any other code nothing has changed, no out
- * parameter was written, and the call may be made again; only pauses may have been made, by lxr_new and lxr_large_new, which look for
- * room, and by lxr_store, whose log may be full. Where several codes would do, the least of them is answered. No number that is passed can
- * do harm: each is looked at.
+ * parameter was written, and the call may be made again; only pauses may have been made, by lxr_new, lxr_new_with and lxr_large_new, which
+ * look for room, and by lxr_store, whose log may be full. lxr_apply alone may have done a part of what it was to do, and says how much in `*done`.
+ * Where several codes would do, the least of them is answered. No number that is passed can do harm: each is looked at.
  *
  * What a host owes: a handle begins as zeros, isn't copied or written to, and is in one call at a time; a pointer that is passed isn't
- * null, leads to as many words as the call says, and to nothing of the handle or of another pointer's; no call is made in a signal
- * handler.
+ * null, leads to as much as the call says, and to nothing of the handle or of another pointer's; no call is made in a signal handler.
  *
  * A call that only looks takes a `const` heap: nothing that a host can tell changes. `const` promises nothing of calls at the same time:
  * two looks too are made one after another.
@@ -63,13 +62,13 @@ typedef uint32_t lxr_code;
 #define LXR_OK         0u /* it is done */
 #define LXR_E_NO_HEAP  1u /* the handle is empty: it was never opened, or is closed */
 #define LXR_E_IN_USE   2u /* lxr_open: the handle has a heap already */
-#define LXR_E_REGISTER 3u /* a register is above 15 */
+#define LXR_E_REGISTER 3u /* a register is above 15, or stands where it can't */
 #define LXR_E_SIZE     4u /* a number of references, data words or blocks is out of its range, or the size of settings */
 #define LXR_E_NIL      5u /* the base register is nil */
 #define LXR_E_INDEX    6u /* the object has no such reference or data word, or no body with such words */
 #define LXR_E_FULL     7u /* what can be reached leaves no room */
 #define LXR_E_MEMORY   8u /* lxr_open: the machine has no memory for it */
-#define LXR_E_WHAT     9u /* lxr_count: there is no such number */
+#define LXR_E_WHAT     9u /* lxr_count: there is no such number; lxr_apply: no such operation */
 
 /* Codes of heaps that threads share, beside those: of lxr_threads.h .. */
 #define LXR_E_NUMBER  10u /* there is no such pass, or no place for a further mutator */
@@ -197,6 +196,76 @@ lxr_code lxr_is_nil(const lxr_heap *heap, uint32_t source, uint32_t *is_nil);
  */
 lxr_code lxr_shape(const lxr_heap *heap, uint32_t base, uint32_t *refs, uint32_t *words, uint32_t *blocks);
 
+/* ---- Several at once ---- */
+
+/*
+ * Each of these is so many calls in one: fewer ways into the library, and one look at what all of them share. `registers` and `sources` are
+ * numbers of registers. A pointer isn't null where its count is 0 either, and an empty call looks at the same things as another.
+ */
+
+/*
+ * Register `dest` holds a new object with `refs` references and `words` data words: reference i is what register `sources[i]` holds, or nil,
+ * and data word i is `data[i]`. It is a lxr_new and so many lxr_store and lxr_put, with no pause between; pauses come before it, as before
+ * lxr_new. LXR_E_REGISTER is answered too where `dest` is among the sources.
+ * Codes: LXR_E_NO_HEAP, LXR_E_REGISTER, LXR_E_SIZE, LXR_E_FULL. Cost: as that of lxr_new.
+ */
+lxr_code lxr_new_with(lxr_heap *heap, uint32_t dest, const uint32_t *sources, size_t refs, const uint64_t *data, size_t words);
+
+/*
+ * The `count` words at `words` become the data words of the object in register `base` from `first` on. All of them are there, or it is
+ * LXR_E_INDEX and none is read.
+ * Codes: LXR_E_NO_HEAP, LXR_E_REGISTER, LXR_E_NIL, LXR_E_INDEX. Cost: grows with `count`.
+ */
+lxr_code lxr_get_many(const lxr_heap *heap, uint32_t base, uint32_t first, uint64_t *words, size_t count);
+
+/*
+ * The data words of the object in register `base` from `first` on become the `count` words at `words`, under the same rule.
+ * Codes: LXR_E_NO_HEAP, LXR_E_REGISTER, LXR_E_NIL, LXR_E_INDEX. Cost: grows with `count`.
+ */
+lxr_code lxr_put_many(lxr_heap *heap, uint32_t base, uint32_t first, const uint64_t *words, size_t count);
+
+/*
+ * Register `registers[i]` holds what reference `first` + i of the object in register `base` refers to, or is nil: for each of `count`, in
+ * order, under the same rule. `base` itself may be the last of the registers; elsewhere among them it is LXR_E_REGISTER.
+ * Codes: LXR_E_NO_HEAP, LXR_E_REGISTER, LXR_E_NIL, LXR_E_INDEX. Cost: grows with `count`.
+ */
+lxr_code lxr_load_many(lxr_heap *heap, uint32_t base, uint32_t first, const uint32_t *registers, size_t count);
+
+/*
+ * Reference `first` + i of the object in register `base` becomes what register `registers[i]` holds, or nil: for each of `count`, in order,
+ * under the same rule. Where what they record doesn't fit into what is left of the log, a plain pause is made before the first of them, and
+ * none between.
+ * Codes: LXR_E_NO_HEAP, LXR_E_REGISTER, LXR_E_NIL, LXR_E_INDEX; at these no pause is made. Cost: grows with `count`; and that pause.
+ */
+lxr_code lxr_store_many(lxr_heap *heap, uint32_t base, uint32_t first, const uint32_t *registers, size_t count);
+
+/* What lxr_apply does, each as the call of its name. `a`, `b` and `c` are the numbers that this takes, in its order: */
+#define LXR_OP_NEW    0u /* dest, refs, words */
+#define LXR_OP_LOAD   1u /* dest, base, index */
+#define LXR_OP_STORE  2u /* base, index, source */
+#define LXR_OP_GET    3u /* base, index */
+#define LXR_OP_PUT    4u /* base, index */
+#define LXR_OP_SAME   5u /* left, right */
+#define LXR_OP_MOVE   6u /* dest, source */
+#define LXR_OP_NIL    7u /* dest */
+#define LXR_OP_IS_NIL 8u /* source */
+
+/* An operation. What its call doesn't take isn't looked at. */
+typedef struct lxr_operation {
+    uint32_t op;      /* LXR_OP_NEW and so on */
+    uint32_t a, b, c; /* its numbers */
+    uint64_t word;    /* of LXR_OP_PUT the word; LXR_OP_GET, LXR_OP_SAME and LXR_OP_IS_NIL write here what they tell, of a test 1 or 0 */
+} lxr_operation;
+
+/*
+ * Does `count` operations in order, each as its call with the pauses of that, up to the first whose code isn't LXR_OK; that code is answered.
+ * `*done` becomes how many were LXR_OK, whatever is answered. The numbers of all are looked at before the first is done: where one has a
+ * register above 15, a size out of its range, or is none that there is, the code is that of the first such, and nothing is done.
+ * LXR_E_NIL, LXR_E_INDEX and LXR_E_FULL come at their operation, and those before it are done.
+ * Codes: LXR_E_NO_HEAP, LXR_E_REGISTER, LXR_E_SIZE, LXR_E_NIL, LXR_E_INDEX, LXR_E_FULL, LXR_E_WHAT. Cost: that of its operations.
+ */
+lxr_code lxr_apply(lxr_heap *heap, lxr_operation *operations, size_t count, size_t *done);
+
 /* ---- Large objects ---- */
 
 /*
@@ -249,10 +318,10 @@ lxr_code lxr_pause(lxr_heap *heap);
 lxr_code lxr_collect(lxr_heap *heap);
 
 /*
- * From now on a plain pause is made before a lxr_new or lxr_large_new, once so many `bytes` of objects were made since the last pause; or by
- * LXR_PACE_NEVER or LXR_PACE_ROOM. An object has the bytes of its header, 8, and of its references and data words, 8 each, rounded up to
- * sixteen; and a large one sixteen, and those of its body. Small numbers keep pauses short, and reclaimed lines warm in the caches; but
- * each pause costs some time by itself, which grows with what lives.
+ * From now on a plain pause is made before a lxr_new, lxr_new_with or lxr_large_new, once so many `bytes` of objects were made since the
+ * last pause; or by LXR_PACE_NEVER or LXR_PACE_ROOM. An object has the bytes of its header, 8, and of its references and data words, 8
+ * each, rounded up to sixteen; and a large one sixteen, and those of its body. Small numbers keep pauses short, and reclaimed lines warm in
+ * the caches; but each pause costs some time by itself, which grows with what lives.
  * Code: LXR_E_NO_HEAP. Cost: constant, but for LXR_PACE_ROOM, whose cost grows with the number of blocks.
  */
 lxr_code lxr_set_pace(lxr_heap *heap, uint64_t bytes);

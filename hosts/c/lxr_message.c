@@ -7,7 +7,7 @@ const char *lxr_message(lxr_code code) {
     case LXR_OK: return "done";
     case LXR_E_NO_HEAP: return "the handle has no heap";
     case LXR_E_IN_USE: return "the handle has a heap already";
-    case LXR_E_REGISTER: return "no such register";
+    case LXR_E_REGISTER: return "no such register, or one that may not stand here";
     case LXR_E_SIZE: return "a size out of its range";
     case LXR_E_NIL: return "the register is nil";
     case LXR_E_INDEX: return "the object has no such field";

@@ -460,6 +460,123 @@ lxr_code lxr_mutator_poll(lxr_mutator *mutator) {
     return wants ? take_part(mutator) : LXR_OK;
 }
 
+/* ---- Several at once ---- */
+
+/* Whether all of these are registers, and none of them is `but`. */
+static bool are_registers(const uint32_t *registers, size_t count, uint32_t but) {
+    for (size_t at = 0; at < count; at++)
+        if (registers[at] >= LXR_REGISTERS || registers[at] == but) return false;
+    return true;
+}
+
+/* The refusal of several operations with this base, whose other registers do or don't. */
+static lxr_code refusal_of_several(const lxr_mutator *mutator, uint32_t base, bool others) {
+    lxr_code code = refusal(mutator);
+    return code == LXR_OK && (base >= LXR_REGISTERS || !others) ? LXR_E_REGISTER : code;
+}
+
+lxr_code lxr_mutator_get_many(lxr_mutator *mutator, uint32_t base, uint32_t first, uint64_t *words, size_t count) {
+    lxr_code code = refusal_of_several(mutator, base, true);
+    for (size_t at = 0; code == LXR_OK && at < count; at++) code = lxr_mutator_get(mutator, base, first + (uint32_t)at, &words[at]);
+    return code;
+}
+
+lxr_code lxr_mutator_put_many(lxr_mutator *mutator, uint32_t base, uint32_t first, const uint64_t *words, size_t count) {
+    lxr_code code = refusal_of_several(mutator, base, true);
+    for (size_t at = 0; code == LXR_OK && at < count; at++) code = lxr_mutator_put(mutator, base, first + (uint32_t)at, words[at]);
+    return code;
+}
+
+lxr_code lxr_mutator_load_many(lxr_mutator *mutator, uint32_t base, uint32_t first, const uint32_t *registers, size_t count) {
+    bool fit = are_registers(registers, count, 0) && are_registers(registers, count ? count - 1 : 0, base);
+    lxr_code code = refusal_of_several(mutator, base, fit);
+    for (size_t at = 0; code == LXR_OK && at < count; at++) code = lxr_mutator_load(mutator, registers[at], base, first + (uint32_t)at);
+    return code;
+}
+
+lxr_code lxr_mutator_store_many(lxr_mutator *mutator, uint32_t base, uint32_t first, const uint32_t *registers, size_t count) {
+    lxr_code code = refusal_of_several(mutator, base, are_registers(registers, count, LXR_REGISTERS));
+    for (size_t at = 0; code == LXR_OK && at < count; at++) code = lxr_mutator_store(mutator, base, first + (uint32_t)at, registers[at]);
+    return code;
+}
+
+lxr_code lxr_mutator_new_with(lxr_mutator *mutator, uint32_t dest, const uint32_t *sources, size_t refs, const uint64_t *data,
+                              size_t words) {
+    lxr_code code = refusal_of_several(mutator, dest, dest != 0 && are_registers(sources, refs, dest));
+    if (code != LXR_OK) return code;
+    if (refs > LXR_MOST_REFS || words > LXR_MOST_WORDS) return LXR_E_SIZE;
+    code = lxr_mutator_new(mutator, dest, (uint32_t)refs, (uint32_t)words);
+    if (code == LXR_OK) code = lxr_mutator_store_many(mutator, dest, 0, sources, refs);
+    return code == LXR_OK ? lxr_mutator_put_many(mutator, dest, 0, data, words) : code;
+}
+
+/* Of an operation the first number is a register. Which others are; and whether the first is written to, so that it isn't 0. */
+enum { IN_B = 1, IN_C = 2, IN_WORD = 4, WRITES = 8 };
+
+/* Whether an operation's numbers fit, or the code that says why they don't. */
+static lxr_code look_at(const lxr_operation *it) {
+    static const unsigned kinds[] = {
+        [LXR_OP_NEW] = WRITES, [LXR_OP_LOAD] = WRITES | IN_B,           [LXR_OP_STORE] = IN_C,
+        [LXR_OP_SAME] = IN_B,  [LXR_OP_MOVE] = WRITES | IN_B,           [LXR_OP_NIL] = WRITES,
+        [LXR_OP_IS_NIL] = 0,   [LXR_OP_SWAP] = WRITES | IN_B | IN_WORD, [LXR_OP_ADD] = 0,
+    };
+    if (it->op >= sizeof kinds / sizeof *kinds) return LXR_E_WHAT;
+    unsigned kind = kinds[it->op];
+    bool others = (!(kind & IN_B) || it->b < LXR_REGISTERS) && (!(kind & IN_C) || it->c < LXR_REGISTERS) &&
+                  (!(kind & IN_WORD) || it->word < LXR_REGISTERS);
+    if (it->a >= LXR_REGISTERS || (kind & WRITES && it->a == 0) || !others) return LXR_E_REGISTER;
+    return it->op == LXR_OP_NEW && (it->b > LXR_MOST_REFS || it->c > LXR_MOST_WORDS) ? LXR_E_SIZE : LXR_OK;
+}
+
+static lxr_code look_at_all(const lxr_operation *operations, size_t count) {
+    lxr_code code = LXR_OK;
+    for (size_t at = 0; code == LXR_OK && at < count; at++) code = look_at(&operations[at]);
+    return code;
+}
+
+static lxr_code tell_same(lxr_mutator *mutator, lxr_operation *it) {
+    uint32_t same = 0;
+    lxr_code code = lxr_mutator_same(mutator, it->a, it->b, &same);
+    if (code == LXR_OK) it->word = same;
+    return code;
+}
+
+/* No object has so many words: where the register holds one, it is the index that is refused. */
+static lxr_code tell_nil(lxr_mutator *mutator, lxr_operation *it) {
+    uint64_t word = 0;
+    lxr_code code = lxr_mutator_get(mutator, it->a, UINT32_MAX, &word);
+    if (code != LXR_E_NIL && code != LXR_E_INDEX) return code;
+    it->word = code == LXR_E_NIL;
+    return LXR_OK;
+}
+
+static lxr_code operate(lxr_mutator *mutator, lxr_operation *it) {
+    switch (it->op) {
+    case LXR_OP_NEW: return lxr_mutator_new(mutator, it->a, it->b, it->c);
+    case LXR_OP_LOAD: return lxr_mutator_load(mutator, it->a, it->b, it->c);
+    case LXR_OP_STORE: return lxr_mutator_store(mutator, it->a, it->b, it->c);
+    case LXR_OP_GET: return lxr_mutator_get(mutator, it->a, it->b, &it->word);
+    case LXR_OP_PUT: return lxr_mutator_put(mutator, it->a, it->b, it->word);
+    case LXR_OP_SAME: return tell_same(mutator, it);
+    case LXR_OP_MOVE: return lxr_mutator_move(mutator, it->a, it->b);
+    case LXR_OP_NIL: return lxr_mutator_nil(mutator, it->a);
+    case LXR_OP_IS_NIL: return tell_nil(mutator, it);
+    case LXR_OP_SWAP: return lxr_mutator_swap(mutator, it->a, it->b, it->c, (uint32_t)it->word);
+    default: return lxr_mutator_add(mutator, it->a, it->b, it->word, &it->word);
+    }
+}
+
+lxr_code lxr_mutator_apply(lxr_mutator *mutator, lxr_operation *operations, size_t count, size_t *done) {
+    *done = 0;
+    lxr_code code = refusal(mutator);
+    if (code == LXR_OK) code = look_at_all(operations, count);
+    while (code == LXR_OK && *done < count) {
+        code = operate(mutator, &operations[*done]);
+        if (code == LXR_OK) ++*done;
+    }
+    return code;
+}
+
 /* ---- Mutators ---- */
 
 lxr_code lxr_mutator_rest(lxr_mutator *mutator) {

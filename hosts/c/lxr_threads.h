@@ -15,11 +15,12 @@
  * lxr_mutator_poll.
  *
  * Each function answers a CODE of lxr.h. At any other code than LXR_OK nothing has changed but that pauses may have been made, and no out
- * parameter was written. No number that is passed can do harm: each is looked at.
+ * parameter was written; what makes several operations has made those before the one that is refused. No number that is passed can do harm:
+ * each is looked at.
  *
  * What a host owes: a handle, which is a pointer to a heap or a mutator, begins as null, and is written to by these functions alone; a
  * `lxr_mutator` is in one call at a time, in whichever thread of the system; a heap isn't closed while it is in another call; a pointer
- * that is passed isn't null, but for a handle's value, leads to as many words as the call says, and to nothing of another pointer's; a
+ * that is passed isn't null, but for a handle's value, leads to as much as the call says, and to nothing of another pointer's; a
  * thread that waits for another one, for a lock that others hold, or for input, rests meanwhile; no call is made in a signal handler, nor
  * in a forked process of a heap that was opened before the fork.
  *
@@ -224,6 +225,59 @@ lxr_code lxr_mutator_move(lxr_mutator *mutator, uint32_t dest, uint32_t source);
  * Code: LXR_E_REGISTER. Cost: constant.
  */
 lxr_code lxr_mutator_nil(lxr_mutator *mutator, uint32_t dest);
+
+/* ---- Several at once ---- */
+
+/*
+ * Each of these makes so many operations, in order: pauses may come between two of them, and other threads may see what is done so far. All
+ * numbers of registers, sizes and operations are looked at first, and where one doesn't fit nothing is done. Where an operation isn't LXR_OK
+ * its code is answered, and those before it are done. `registers` and `sources` are numbers of registers. A pointer isn't null where its
+ * count is 0 either; then only the numbers are looked at. The cost is that of the operations.
+ */
+
+/*
+ * A lxr_mutator_new, a lxr_mutator_store of each of `refs` sources, and a lxr_mutator_put of each of `words` words. LXR_E_REGISTER is
+ * answered too where `dest` is among the sources. No other thread can reach the object before it is stored elsewhere.
+ * Codes: LXR_E_REGISTER, LXR_E_SIZE, LXR_E_FULL.
+ */
+lxr_code lxr_mutator_new_with(lxr_mutator *mutator, uint32_t dest, const uint32_t *sources, size_t refs, const uint64_t *data,
+                              size_t words);
+
+/*
+ * A lxr_mutator_get of each of `count` data words from `first` on.
+ * Codes: LXR_E_REGISTER, LXR_E_NIL, LXR_E_INDEX.
+ */
+lxr_code lxr_mutator_get_many(lxr_mutator *mutator, uint32_t base, uint32_t first, uint64_t *words, size_t count);
+
+/*
+ * A lxr_mutator_put of each of `count` data words from `first` on.
+ * Codes: LXR_E_REGISTER, LXR_E_NIL, LXR_E_INDEX.
+ */
+lxr_code lxr_mutator_put_many(lxr_mutator *mutator, uint32_t base, uint32_t first, const uint64_t *words, size_t count);
+
+/*
+ * A lxr_mutator_load of each of `count` references from `first` on, into registers 1 to 15. `base` may be the last of them; elsewhere among
+ * them it is LXR_E_REGISTER.
+ * Codes: LXR_E_REGISTER, LXR_E_NIL, LXR_E_INDEX.
+ */
+lxr_code lxr_mutator_load_many(lxr_mutator *mutator, uint32_t base, uint32_t first, const uint32_t *registers, size_t count);
+
+/*
+ * A lxr_mutator_store of each of `count` references from `first` on.
+ * Codes: LXR_E_REGISTER, LXR_E_NIL, LXR_E_INDEX.
+ */
+lxr_code lxr_mutator_store_many(lxr_mutator *mutator, uint32_t base, uint32_t first, const uint32_t *registers, size_t count);
+
+/* What lxr_mutator_apply does besides the operations of lxr.h: */
+#define LXR_OP_SWAP 9u  /* dest, base, index; the word is the source */
+#define LXR_OP_ADD  10u /* base, index; the word is what is added, and becomes what stood there */
+
+/*
+ * Does `count` operations. `*done` becomes how many were LXR_OK, whatever is answered. Where the numbers of several don't fit, the code is
+ * that of the first such; LXR_E_WHAT says that there is no such operation.
+ * Codes: LXR_E_REGISTER, LXR_E_SIZE, LXR_E_NIL, LXR_E_INDEX, LXR_E_FULL, LXR_E_WHAT.
+ */
+lxr_code lxr_mutator_apply(lxr_mutator *mutator, lxr_operation *operations, size_t count, size_t *done);
 
 /* ---- Pauses ---- */
 

@@ -108,6 +108,35 @@ static lxr_code find_word(const lxr_heap *handle, uint32_t base, uint32_t index,
     return LXR_OK;
 }
 
+/* Whether all of these are registers, and none of them is `but`. */
+static bool are_registers(const uint32_t *registers, size_t count, uint32_t but) {
+    for (size_t at = 0; at < count; at++)
+        if (registers[at] >= LXR_REGISTERS || registers[at] == but) return false;
+    return true;
+}
+
+static bool are_fields(uint32_t first, size_t count, uint32_t fields) { return first <= fields && count <= fields - first; }
+
+/* Finds `count` data words of an object. */
+static lxr_code find_words(const lxr_heap *handle, uint32_t base, uint32_t first, size_t count, uint64_t **found) {
+    struct object *it = NULL;
+    lxr_code code = find_base(handle, base, &it);
+    if (code != LXR_OK) return code;
+    if (!are_fields(first, count, it->words)) return LXR_E_INDEX;
+    *found = words_of(it) + first;
+    return LXR_OK;
+}
+
+/* Finds `count` references of an object. */
+static lxr_code find_refs(const lxr_heap *handle, uint32_t base, uint32_t first, size_t count, struct object ***found) {
+    struct object *it = NULL;
+    lxr_code code = find_base(handle, base, &it);
+    if (code != LXR_OK) return code;
+    if (!are_fields(first, count, it->refs)) return LXR_E_INDEX;
+    *found = refs_of(it) + first;
+    return LXR_OK;
+}
+
 /* Finds `count` words of the body of an object. */
 static lxr_code find_body(const lxr_heap *handle, uint32_t base, uint32_t index, size_t count, uint64_t **found) {
     struct object *it = NULL;
@@ -228,6 +257,66 @@ lxr_code lxr_put(lxr_heap *handle, uint32_t base, uint32_t index, uint64_t word)
     return code;
 }
 
+/* Writes references over others: what these registers hold. */
+static void fill_refs(const struct heap *heap, struct object **refs, const uint32_t *registers, size_t count) {
+    for (size_t at = 0; at < count; at++) refs[at] = heap->registers[registers[at]];
+}
+
+lxr_code lxr_new_with(lxr_heap *handle, uint32_t dest, const uint32_t *sources, size_t refs, const uint64_t *data, size_t words) {
+    struct heap *heap = NULL;
+    lxr_code code = find_registers(handle, dest, dest, &heap);
+    if (code != LXR_OK) return code;
+    if (!are_registers(sources, refs, dest)) return LXR_E_REGISTER;
+    if (refs > LXR_MOST_REFS || words > LXR_MOST_WORDS) return LXR_E_SIZE;
+    code = hold_new(heap, dest, (uint32_t)refs, (uint32_t)words, 0);
+    if (code != LXR_OK) return code;
+    fill_refs(heap, refs_of(heap->registers[dest]), sources, refs);
+    if (words) memcpy(words_of(heap->registers[dest]), data, words * sizeof *data);
+    return LXR_OK;
+}
+
+lxr_code lxr_get_many(const lxr_heap *handle, uint32_t base, uint32_t first, uint64_t *words, size_t count) {
+    uint64_t *found = NULL;
+    lxr_code code = find_words(handle, base, first, count, &found);
+    if (code == LXR_OK && count) memcpy(words, found, count * sizeof *words);
+    return code;
+}
+
+lxr_code lxr_put_many(lxr_heap *handle, uint32_t base, uint32_t first, const uint64_t *words, size_t count) {
+    uint64_t *found = NULL;
+    lxr_code code = find_words(handle, base, first, count, &found);
+    if (code == LXR_OK && count) memcpy(found, words, count * sizeof *words);
+    return code;
+}
+
+/* Whether references of the object in a register may be loaded so: that register is the last of them at most. */
+static bool are_targets(const uint32_t *registers, size_t count, uint32_t base) {
+    return count == 0 || (are_registers(registers, count - 1, base) && registers[count - 1] < LXR_REGISTERS);
+}
+
+lxr_code lxr_load_many(lxr_heap *handle, uint32_t base, uint32_t first, const uint32_t *registers, size_t count) {
+    struct heap *heap = NULL;
+    struct object **found = NULL;
+    lxr_code code = find_registers(handle, base, base, &heap);
+    if (code != LXR_OK) return code;
+    if (!are_targets(registers, count, base)) return LXR_E_REGISTER;
+    code = find_refs(handle, base, first, count, &found);
+    if (code != LXR_OK) return code;
+    for (size_t at = 0; at < count; at++) heap->registers[registers[at]] = found[at];
+    return LXR_OK;
+}
+
+lxr_code lxr_store_many(lxr_heap *handle, uint32_t base, uint32_t first, const uint32_t *registers, size_t count) {
+    struct heap *heap = NULL;
+    struct object **found = NULL;
+    lxr_code code = find_registers(handle, base, base, &heap);
+    if (code != LXR_OK) return code;
+    if (!are_registers(registers, count, LXR_REGISTERS)) return LXR_E_REGISTER;
+    code = find_refs(handle, base, first, count, &found);
+    if (code == LXR_OK) fill_refs(heap, found, registers, count);
+    return code;
+}
+
 lxr_code lxr_large_get(const lxr_heap *handle, uint32_t base, uint32_t index, uint64_t *word) {
     uint64_t *found = NULL;
     lxr_code code = find_body(handle, base, index, 1, &found);
@@ -292,6 +381,65 @@ lxr_code lxr_shape(const lxr_heap *handle, uint32_t base, uint32_t *refs, uint32
     *words = it->words;
     *blocks = it->blocks;
     return LXR_OK;
+}
+
+/* Which numbers of an operation are registers: a sum of these. */
+enum { A = 1, B = 2, C = 4 };
+
+/* Whether an operation's numbers fit, or the code that says why they don't. */
+static lxr_code look_at(const lxr_operation *it) {
+    static const unsigned kinds[] = {
+        [LXR_OP_NEW] = A,      [LXR_OP_LOAD] = A | B, [LXR_OP_STORE] = A | C, [LXR_OP_GET] = A,    [LXR_OP_PUT] = A,
+        [LXR_OP_SAME] = A | B, [LXR_OP_MOVE] = A | B, [LXR_OP_NIL] = A,       [LXR_OP_IS_NIL] = A,
+    };
+    if (it->op >= sizeof kinds / sizeof *kinds) return LXR_E_WHAT;
+    unsigned kind = kinds[it->op];
+    if (it->a >= LXR_REGISTERS || (kind & B && it->b >= LXR_REGISTERS) || (kind & C && it->c >= LXR_REGISTERS)) return LXR_E_REGISTER;
+    return it->op == LXR_OP_NEW && (it->b > LXR_MOST_REFS || it->c > LXR_MOST_WORDS) ? LXR_E_SIZE : LXR_OK;
+}
+
+static lxr_code look_at_all(const lxr_operation *operations, size_t count) {
+    lxr_code code = LXR_OK;
+    for (size_t at = 0; at < count && code == LXR_OK; at++) code = look_at(&operations[at]);
+    return code;
+}
+
+/* Writes down what a test tells. */
+static lxr_code tell(lxr_code code, uint32_t told, uint64_t *word) {
+    if (code == LXR_OK) *word = told;
+    return code;
+}
+
+static lxr_code operate(lxr_heap *handle, lxr_operation *it) {
+    uint32_t told = 0;
+    switch (it->op) {
+    case LXR_OP_NEW: return lxr_new(handle, it->a, it->b, it->c);
+    case LXR_OP_LOAD: return lxr_load(handle, it->a, it->b, it->c);
+    case LXR_OP_STORE: return lxr_store(handle, it->a, it->b, it->c);
+    case LXR_OP_GET: return lxr_get(handle, it->a, it->b, &it->word);
+    case LXR_OP_PUT: return lxr_put(handle, it->a, it->b, it->word);
+    case LXR_OP_MOVE: return lxr_move(handle, it->a, it->b);
+    case LXR_OP_NIL: return lxr_nil(handle, it->a);
+    case LXR_OP_SAME: {
+        lxr_code code = lxr_same(handle, it->a, it->b, &told);
+        return tell(code, told, &it->word);
+    }
+    default: {
+        lxr_code code = lxr_is_nil(handle, it->a, &told);
+        return tell(code, told, &it->word);
+    }
+    }
+}
+
+lxr_code lxr_apply(lxr_heap *handle, lxr_operation *operations, size_t count, size_t *done) {
+    *done = 0;
+    if (!heap_of(handle)) return LXR_E_NO_HEAP;
+    lxr_code code = look_at_all(operations, count);
+    while (code == LXR_OK && *done < count) {
+        code = operate(handle, &operations[*done]);
+        if (code == LXR_OK) ++*done;
+    }
+    return code;
 }
 
 /* All objects made since the last pause are kept. */

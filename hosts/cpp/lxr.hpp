@@ -6,7 +6,7 @@
 //         lxr::root pair = heap.make(1, 1);    // one reference, one data word
 //         pair.put(0, n);
 //         pair.store(0, list);
-//         list = std::move(pair);
+//         list = std::move(pair);              // all of this is `list = heap.make_with({list}, {n});`
 //     }
 //     std::cout << list.load(0).get(0);        // 8
 //
@@ -16,21 +16,26 @@
 // not in roots.
 //
 // What can't be done is thrown, as an `lxr::error`, which is a `std::system_error` with a code of `lxr::category()`; then nothing has
-// changed. Where a full heap isn't a surprise, `try_make` and `try_make_large` answer a nil root instead. A root doesn't outlive its heap:
-// asserted.
+// changed, but by a `batch` that was done in part. Where a full heap isn't a surprise, `try_make`, `try_make_with` and `try_make_large`
+// answer a nil root instead. A root doesn't outlive its heap: asserted.
 #ifndef LXR_HPP
 #define LXR_HPP
 
 #include "lxr.h"
 
+#include <array>
 #include <cassert>
 #include <cstddef>
 #include <cstdint>
+#include <functional>
+#include <initializer_list>
+#include <iterator>
 #include <memory>
 #include <string>
 #include <system_error>
 #include <type_traits>
 #include <utility>
+#include <vector>
 
 namespace lxr {
 
@@ -104,6 +109,64 @@ struct shape {
 
 namespace detail {
 
+/// What the items of a range are that stand one after another, as those of a vector or an array.
+template <typename Range> using item_of = std::remove_pointer_t<decltype(std::data(std::declval<Range&>()))>;
+
+/// Where nothing is to be read or written a pointer may be null; but a call takes none that is.
+template <typename Item> Item* not_null(Item* items) noexcept {
+    static std::remove_const_t<Item> none{};
+    return items ? items : &none;
+}
+
+}  // namespace detail
+
+/// Words that a call reads: `{1, 2}`, a vector or an array of them, or a pointer and a number. It lives as long as the call.
+class word_list {
+public:
+    word_list(std::initializer_list<std::uint64_t> words) noexcept : word_list(words.begin(), words.size()) {}
+    word_list(const std::uint64_t* words, std::size_t count) noexcept : words_(words), count_(count) {}
+    template <typename Range, typename = std::enable_if_t<std::is_same_v<detail::item_of<const Range>, const std::uint64_t>>>
+    word_list(const Range& words) noexcept : word_list(std::data(words), std::size(words)) {}
+
+    [[nodiscard]] const std::uint64_t* data() const noexcept { return detail::not_null(words_); }
+    [[nodiscard]] std::size_t size() const noexcept { return count_; }
+
+private:
+    const std::uint64_t* words_;
+    std::size_t count_;
+};
+
+namespace detail {
+
+/// Roots, or locals, whose objects a call reads: `{left, right}`, or a vector or an array of them. It lives as long as the call.
+template <typename Root> class holder_list {
+public:
+    /// One of those that braces name. It may be a temporary, which lives as long as the call too.
+    struct named {
+        const Root* it;
+        named(const Root& root) noexcept : it(&root) {}
+    };
+
+    holder_list(std::initializer_list<named> roots) noexcept : holder_list(roots.begin(), roots.size()) {}
+    holder_list(const named* roots, std::size_t count) noexcept : named_(roots), count_(count) {}
+    template <typename Range, typename = std::enable_if_t<std::is_same_v<item_of<const Range>, const Root>>>
+    holder_list(const Range& roots) noexcept : roots_(std::data(roots)), count_(std::size(roots)) {}
+
+    [[nodiscard]] const Root& operator[](std::size_t at) const noexcept { return roots_ ? roots_[at] : *named_[at].it; }
+    [[nodiscard]] std::size_t size() const noexcept { return count_; }
+
+private:
+    const Root* roots_ = nullptr;
+    const named* named_ = nullptr;
+    std::size_t count_;
+};
+
+/// Numbers of registers, at most as many as an object has references.
+struct register_list {
+    std::array<std::uint32_t, LXR_MOST_REFS> numbers;
+    std::size_t count = 0;
+};
+
 inline void done(lxr_code code) {
     if (code != LXR_OK) throw error(static_cast<errc>(code));
 }
@@ -152,7 +215,25 @@ struct state {
     lxr_code same(std::uint32_t left, std::uint32_t right, std::uint32_t* same) const { return lxr_same(&handle, left, right, same); }
     lxr_code move(std::uint32_t dest, std::uint32_t source) { return lxr_move(&handle, dest, source); }
     lxr_code clear(std::uint32_t dest) { return lxr_nil(&handle, dest); }
+    lxr_code make_with(std::uint32_t dest, const register_list& refs, const word_list& words) {
+        return lxr_new_with(&handle, dest, refs.numbers.data(), refs.count, words.data(), words.size());
+    }
+    lxr_code get_many(std::uint32_t base, std::uint32_t first, std::uint64_t* words, std::size_t count) const {
+        return lxr_get_many(&handle, base, first, words, count);
+    }
+    lxr_code put_many(std::uint32_t base, std::uint32_t first, const word_list& words) {
+        return lxr_put_many(&handle, base, first, words.data(), words.size());
+    }
+    lxr_code load_many(std::uint32_t base, std::uint32_t first, const register_list& registers) {
+        return lxr_load_many(&handle, base, first, registers.numbers.data(), registers.count);
+    }
+    lxr_code store_many(std::uint32_t base, std::uint32_t first, const register_list& registers) {
+        return lxr_store_many(&handle, base, first, registers.numbers.data(), registers.count);
+    }
+    lxr_code apply(lxr_operation* operations, std::size_t count, std::size_t* done) { return lxr_apply(&handle, operations, count, done); }
 };
+
+template <typename Batch, typename Root, typename State> class operations;
 
 /// What a root of a heap and a local of a mutator do alike: holds an object, or is nil. `State` has the registers, and the calls on them.
 template <typename Root, typename State> class holder {
@@ -216,7 +297,7 @@ public:
     }
 
     /// A reference becomes what `source` holds: one of the same registers, or a nil one. Another is `errc::no_register`.
-    void store(std::uint32_t index, const Root& source) { done(state().store(at_, index, register_of(source))); }
+    void store(std::uint32_t index, const Root& source) { done(state().store(at_, index, register_of(state(), source))); }
 
     /// A reference becomes nil.
     void clear(std::uint32_t index) { done(state().store(at_, index, nil)); }
@@ -229,10 +310,59 @@ public:
 
     void put(std::uint32_t index, std::uint64_t word) { done(state().put(at_, index, word)); }
 
+    /// Reads data words from `first` on: as many as there is room for, or it throws.
+    void get_many(std::uint32_t first, std::uint64_t* into, std::size_t count) const {
+        done(state().get_many(at_, first, not_null(into), count));
+    }
+    template <typename Range, typename = std::enable_if_t<std::is_same_v<item_of<Range>, std::uint64_t>>>
+    void get_many(std::uint32_t first, Range& into) const {
+        get_many(first, std::data(into), std::size(into));
+    }
+
+    /// So many data words from `first` on: `auto [left, right] = pair.get_many<2>(0);`
+    template <std::size_t Count> [[nodiscard]] std::array<std::uint64_t, Count> get_many(std::uint32_t first) const {
+        std::array<std::uint64_t, Count> words{};
+        get_many(first, words);
+        return words;
+    }
+
+    /// Data words from `first` on become these.
+    void put_many(std::uint32_t first, word_list words) { done(state().put_many(at_, first, words)); }
+
+    /// What so many references from `first` on refer to: `auto [left, right] = node.load_many<2>(0);`
+    template <std::size_t Count> [[nodiscard]] std::array<Root, Count> load_many(std::uint32_t first) const {
+        static_assert(Count < LXR_REGISTERS, "there are fewer registers");
+        std::array<Root, Count> found;
+        register_list registers;
+        for (Root& one : found) {
+            one = Root(state());
+            registers.numbers[registers.count++] = one.at_;
+        }
+        done(state().load_many(at_, first, registers));
+        return found;
+    }
+
+    /// These become what references from `first` on refer to, in the registers that they have; this one may be the last of them. One that has
+    /// none gets one first, and is nil where this throws.
+    void load_many(std::uint32_t first, std::initializer_list<std::reference_wrapper<Root>> into) const {
+        State& here = state();
+        const std::uint32_t base = at_;  // it may be among these
+        register_list registers;
+        if (into.size() > registers.numbers.size()) throw error(errc::index);
+        for (Root& one : into) registers.numbers[registers.count++] = own_register_of(here, one);
+        done(here.load_many(base, first, registers));
+    }
+
+    /// References from `first` on become what these hold: `node.store_many(0, {left, right});`. Each is as `store` wants it.
+    void store_many(std::uint32_t first, holder_list<Root> sources) {
+        done(state().store_many(at_, first, registers_of(sources, errc::index)));
+    }
+
 private:
     friend Root;
     friend class lxr::heap;
     friend class lxr::mutator;
+    template <typename, typename, typename> friend class operations;
 
     explicit holder(State& state) : state_(&state), at_(state.taken.take()) {}
     holder(State& state, std::uint32_t at) noexcept : state_(&state), at_(at) {}
@@ -243,10 +373,27 @@ private:
     }
 
     /// The register of what is to be stored.
-    std::uint32_t register_of(const Root& source) const {
-        if (source.is_of(state())) return source.at_;
+    static std::uint32_t register_of(const State& state, const Root& source) {
+        if (source.is_of(state)) return source.at_;
         if (source) throw error(errc::no_register);
         return nil;
+    }
+
+    /// Registers of several that are to be stored. More than an object has references are `too_many`.
+    register_list registers_of(const holder_list<Root>& sources, errc too_many) const {
+        register_list registers;
+        if (sources.size() > registers.numbers.size()) throw error(too_many);
+        while (registers.count < sources.size()) {
+            registers.numbers[registers.count] = register_of(state(), sources[registers.count]);
+            ++registers.count;
+        }
+        return registers;
+    }
+
+    /// The register of what is to be written to: its own, which it has from now on, where it had none of these.
+    static std::uint32_t own_register_of(State& state, Root& dest) {
+        if (dest.state_ != &state || dest.at_ == world) dest = Root(state);
+        return dest.at_;
     }
 
     Root& itself() noexcept { return static_cast<Root&>(*this); }
@@ -260,6 +407,64 @@ private:
 
     State* state_ = nullptr;
     std::uint32_t at_ = nil;
+};
+
+}  // namespace detail
+
+namespace detail {
+
+/// Operations to be done in order by one call, `run`. They name the registers that roots have as an operation is added: until it has run no
+/// root of it is moved, assigned to or reset. A root that is to be written to has a register from then on.
+template <typename Batch, typename Root, typename State> class operations {
+public:
+    Batch& make(Root& dest, std::uint32_t refs, std::uint32_t words) { return add(LXR_OP_NEW, own(dest), refs, words); }
+    Batch& load(Root& dest, const Root& base, std::uint32_t index) {
+        const std::uint32_t from = of(base);  // before `dest` gets a register, since it may be the base
+        return add(LXR_OP_LOAD, own(dest), from, index);
+    }
+    Batch& store(const Root& base, std::uint32_t index, const Root& source) { return add(LXR_OP_STORE, of(base), index, of(source)); }
+    Batch& get(const Root& base, std::uint32_t index) { return add(LXR_OP_GET, of(base), index); }
+    Batch& put(const Root& base, std::uint32_t index, std::uint64_t word) { return add(LXR_OP_PUT, of(base), index, 0, word); }
+    Batch& same(const Root& left, const Root& right) { return add(LXR_OP_SAME, of(left), of(right)); }
+    Batch& copy(Root& dest, const Root& source) {
+        const std::uint32_t from = of(source);
+        return add(LXR_OP_MOVE, own(dest), from);
+    }
+    Batch& nil(Root& dest) { return add(LXR_OP_NIL, own(dest)); }
+    Batch& is_nil(const Root& source) { return add(LXR_OP_IS_NIL, of(source)); }
+
+    /// Does them all; they may run again. Where one can't be done that is thrown, and those before it are done: `done` of them.
+    void run() {
+        told_ = asked_;
+        detail::done(state_.apply(not_null(told_.data()), told_.size(), &done_));
+    }
+
+    /// How many were done by the last run.
+    [[nodiscard]] std::size_t done() const noexcept { return done_; }
+
+    /// What an operation told by the last run, by its number from 0 on: the word of a `get`, 1 or 0 of a `same` or `is_nil`.
+    [[nodiscard]] std::uint64_t told(std::size_t at) const { return told_.at(at).word; }
+
+    [[nodiscard]] std::size_t size() const noexcept { return asked_.size(); }
+
+    /// Forgets them all.
+    void clear() noexcept { asked_.clear(); }
+
+protected:
+    explicit operations(State& state) noexcept : state_(state) {}
+
+    Batch& add(std::uint32_t op, std::uint32_t a, std::uint32_t b = 0, std::uint32_t c = 0, std::uint64_t word = 0) {
+        asked_.push_back(lxr_operation{op, a, b, c, word});
+        return static_cast<Batch&>(*this);
+    }
+
+    std::uint32_t of(const Root& source) const { return Root::register_of(state_, source); }
+    std::uint32_t own(Root& dest) const { return Root::own_register_of(state_, dest); }
+
+private:
+    State& state_;
+    std::vector<lxr_operation> asked_, told_;
+    std::size_t done_ = 0;
 };
 
 }  // namespace detail
@@ -286,16 +491,19 @@ public:
 
     /// Reads `count` words of the body from `index` on: all of them, or it throws.
     void body_read(std::uint32_t index, std::uint64_t* into, std::size_t count) const {
-        detail::done(lxr_large_read(handle(), at_, index, into, count));
+        detail::done(lxr_large_read(handle(), at_, index, detail::not_null(into), count));
     }
 
     void body_write(std::uint32_t index, const std::uint64_t* from, std::size_t count) {
-        detail::done(lxr_large_write(handle(), at_, index, from, count));
+        detail::done(lxr_large_write(handle(), at_, index, detail::not_null(from), count));
     }
 
 private:
     lxr_heap* handle() const { return &state().handle; }
 };
+
+/// The roots whose objects a call reads.
+using root_list = detail::holder_list<root>;
 
 /// A heap for one thread. It is moved and not copied, and used by one thread at a time.
 class heap {
@@ -317,6 +525,14 @@ public:
         return made;
     }
 
+    /// A new object whose references are what these roots hold, and whose words are these: `heap.make_with({left, right}, {1, 2})`. A nil root
+    /// is a nil reference.
+    [[nodiscard]] root make_with(root_list refs, word_list words) {
+        root made(state());
+        detail::done(state().make_with(made.at_, made.registers_of(refs, errc::size), words));
+        return made;
+    }
+
     /// A new large object, with a body of 1 to 128 blocks of 4,096 words of 0.
     [[nodiscard]] root make_large(std::uint32_t blocks) {
         root made(state());
@@ -328,6 +544,13 @@ public:
     [[nodiscard]] root try_make(std::uint32_t refs, std::uint32_t words) {
         root made(state());
         const lxr_code code = lxr_new(handle(), made.at_, refs, words);
+        return made_or_nil(std::move(made), code);
+    }
+
+    /// As `make_with`, but a nil root where the heap is full.
+    [[nodiscard]] root try_make_with(root_list refs, word_list words) {
+        root made(state());
+        const lxr_code code = state().make_with(made.at_, made.registers_of(refs, errc::size), words);
         return made_or_nil(std::move(made), code);
     }
 
@@ -357,6 +580,8 @@ public:
     [[nodiscard]] std::uint64_t free_body_bytes() const { return count(LXR_COUNT_FREE_BODY_BYTES); }
 
 private:
+    friend class batch;
+
     detail::state& state() const {
         if (!state_) throw error(errc::no_heap);
         return *state_;
@@ -376,6 +601,17 @@ private:
     }
 
     std::unique_ptr<detail::state> state_;
+};
+
+/// Operations of a heap, done by one call. It doesn't outlive the heap.
+///
+///     lxr::batch batch(heap);
+///     lxr::root pair;
+///     batch.make(pair, 1, 1).put(pair, 0, 7).store(pair, 0, list).get(list, 0).run();
+///     std::cout << batch.told(3);  // what `get` told
+class batch : public detail::operations<batch, root, detail::state> {
+public:
+    explicit batch(heap& heap) : operations(heap.state()) {}
 };
 
 }  // namespace lxr

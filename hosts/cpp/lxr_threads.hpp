@@ -14,8 +14,9 @@
 // it lives, and lets go of it then; there are fourteen. What one thread is to have of another goes through the heap: through the world,
 // which all mutators have, and what it leads to.
 //
-// What can't be done is thrown, as an `lxr::error`; then nothing has changed. Where a full heap isn't a surprise, `try_make` answers a nil
-// local instead. A local doesn't outlive its mutator, nor a mutator its heap: asserted.
+// What can't be done is thrown, as an `lxr::error`; then nothing has changed, but what several operations at once have done by then. Where a
+// full heap isn't a surprise, `try_make` and `try_make_with` answer a nil local instead. A local doesn't outlive its mutator, nor a mutator
+// its heap: asserted.
 #ifndef LXR_THREADS_HPP
 #define LXR_THREADS_HPP
 
@@ -23,6 +24,7 @@
 #include "lxr_threads.h"
 
 #include <cassert>
+#include <cstddef>
 #include <cstdint>
 #include <memory>
 #include <utility>
@@ -53,6 +55,24 @@ struct share {
     lxr_code same(std::uint32_t left, std::uint32_t right, std::uint32_t* same) { return lxr_mutator_same(handle, left, right, same); }
     lxr_code move(std::uint32_t dest, std::uint32_t source) { return lxr_mutator_move(handle, dest, source); }
     lxr_code clear(std::uint32_t dest) { return lxr_mutator_nil(handle, dest); }
+    lxr_code make_with(std::uint32_t dest, const register_list& refs, const word_list& words) {
+        return lxr_mutator_new_with(handle, dest, refs.numbers.data(), refs.count, words.data(), words.size());
+    }
+    lxr_code get_many(std::uint32_t base, std::uint32_t first, std::uint64_t* words, std::size_t count) {
+        return lxr_mutator_get_many(handle, base, first, words, count);
+    }
+    lxr_code put_many(std::uint32_t base, std::uint32_t first, const word_list& words) {
+        return lxr_mutator_put_many(handle, base, first, words.data(), words.size());
+    }
+    lxr_code load_many(std::uint32_t base, std::uint32_t first, const register_list& registers) {
+        return lxr_mutator_load_many(handle, base, first, registers.numbers.data(), registers.count);
+    }
+    lxr_code store_many(std::uint32_t base, std::uint32_t first, const register_list& registers) {
+        return lxr_mutator_store_many(handle, base, first, registers.numbers.data(), registers.count);
+    }
+    lxr_code apply(lxr_operation* operations, std::size_t count, std::size_t* done) {
+        return lxr_mutator_apply(handle, operations, count, done);
+    }
 };
 
 struct closes {
@@ -80,7 +100,7 @@ public:
     /// A reference becomes what `desired` holds, and what it was is answered, in one step of all threads. `desired` is as `store` wants it.
     local exchange(std::uint32_t index, const local& desired) {
         local old(state());
-        detail::done(lxr_mutator_swap(state().handle, old.at_, at_, index, register_of(desired)));
+        detail::done(lxr_mutator_swap(state().handle, old.at_, at_, index, register_of(state(), desired)));
         return old;
     }
 
@@ -91,6 +111,9 @@ public:
         return old;
     }
 };
+
+/// The locals whose objects a call reads.
+using local_list = detail::holder_list<local>;
 
 /// A heap that threads share. It is moved and not copied, and that, as its end, while no mutator is in it.
 class shared_heap {
@@ -154,13 +177,26 @@ public:
         return made;
     }
 
+    /// A new object whose references are what these locals hold, and whose words are these: `self.make_with({left, right}, {1, 2})`. A nil
+    /// local is a nil reference.
+    [[nodiscard]] local make_with(local_list refs, word_list words) {
+        local made(share());
+        detail::done(share().make_with(made.at_, made.registers_of(refs, errc::size), words));
+        return made;
+    }
+
+    /// As `make_with`, but a nil local where the heap is full.
+    [[nodiscard]] local try_make_with(local_list refs, word_list words) {
+        local made(share());
+        const lxr_code code = share().make_with(made.at_, made.registers_of(refs, errc::size), words);
+        return made_or_nil(std::move(made), code);
+    }
+
     /// As `make`, but a nil local where the heap is full.
     [[nodiscard]] local try_make(std::uint32_t refs, std::uint32_t words) {
         local made(share());
         const lxr_code code = lxr_mutator_new(share().handle, made.at_, refs, words);
-        if (code == LXR_E_FULL) return local();
-        detail::done(code);
-        return made;
+        return made_or_nil(std::move(made), code);
     }
 
     /// A pause, which all mutators take part in that don't rest.
@@ -174,13 +210,38 @@ public:
 
 private:
     friend class resting;
+    friend class shared_batch;
 
     detail::share& share() const {
         if (!share_) throw error(errc::no_heap);
         return *share_;
     }
 
+    static local made_or_nil(local made, lxr_code code) {
+        if (code == LXR_E_FULL) return local();
+        detail::done(code);
+        return made;
+    }
+
     std::unique_ptr<detail::share> share_;
+};
+
+/// Operations of a mutator, in order, as a `batch` has them: pauses may come between, and other threads see what is done so far. It doesn't
+/// outlive the mutator.
+class shared_batch : public detail::operations<shared_batch, local, detail::share> {
+public:
+    explicit shared_batch(mutator& mutator) : operations(mutator.share()) {}
+
+    /// As `local::exchange`: `dest` holds what the reference was.
+    shared_batch& exchange(local& dest, const local& base, std::uint32_t index, const local& desired) {
+        const std::uint32_t at = of(base), source = of(desired);  // before `dest` gets a register, since it may be one of them
+        return add(LXR_OP_SWAP, own(dest), at, index, source);
+    }
+
+    /// As `local::fetch_add`: what the word was is told.
+    shared_batch& fetch_add(const local& base, std::uint32_t index, std::uint64_t word) {
+        return add(LXR_OP_ADD, of(base), index, 0, word);
+    }
 };
 
 /// While it lives, its mutator holds up no pause, and its thread may block. No call is made for the mutator then: `errc::rests`. A local of

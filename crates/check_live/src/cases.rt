@@ -11,6 +11,16 @@ pub struct Case<'a> {
     pub script: Script,
 }
 
+/// The number behind `NAME=`, where a word says this.
+fn number_in(word: &str, name: &str) -> Option<u64> {
+    let (said, number) = word.split_once('=')?;
+    if said == name {
+        number.parse().ok()
+    } else {
+        None
+    }
+}
+
 impl<'a> Case<'a> {
     /// A case with these words; none where the text is no script, or memory runs out.
     pub fn new(alloc: Global, title: &'a str, text: &str) -> Option<Case<'a>> {
@@ -26,10 +36,9 @@ impl<'a> Case<'a> {
     /// The number behind a word `NAME=`, where it stands there.
     pub fn number(&self, name: &str) -> Option<u64> {
         for word in self.title.split(' ') {
-            if let Some((said, number)) = word.split_once('=') {
-                if said == name {
-                    return number.parse().ok();
-                }
+            let number = number_in(word, name);
+            if number.is_some() {
+                return number;
             }
         }
         None

@@ -24,31 +24,76 @@ mod shared;
 mod telling;
 mod watching;
 
+use crate::board::Board;
 use crate::cases::Case;
-use crate::playing::play;
+use crate::player::Player;
+use crate::playing::{play, players_of};
 use crate::telling::tell;
+use lxr_shared_heap::Heap;
 use std::io;
 use std::sync::Wait;
 use std::thread::Threads;
+
+/// Lets go of a board. It is done here alone, since each place where a heap is let go of is proved by itself.
+fn end(_board: Board) {}
+
+/// Plays a case on a heap, and tells what came of it.
+fn answer_on<R: AllocGlobal + Print + Threads + Wait + Sync>(
+    rt: &R,
+    case: &Case<'_>,
+    heap: Heap,
+    players: &mut [Player],
+) -> io::Result<()> {
+    let board = play(rt, rt.alloc(), case, heap, players);
+    let told = tell(rt, case, &board, players);
+    end(board);
+    told
+}
+
+/// Plays a case with these threads, and tells what came of it.
+fn answer_with<R: AllocGlobal + Print + Threads + Wait + Sync>(
+    rt: &R,
+    case: &Case<'_>,
+    players: &mut [Player],
+) -> io::Result<()> {
+    match Heap::open(rt.alloc(), case.settings()) {
+        Ok(heap) => answer_on(rt, case, heap, players),
+        Err(_) => println!(rt; "no heap"),
+    }
+}
+
+/// Plays a case, and tells what came of it.
+fn answer_case<R: AllocGlobal + Print + Threads + Wait + Sync>(
+    rt: &R,
+    case: &Case<'_>,
+) -> io::Result<()> {
+    let mut players = players_of(rt.alloc(), case)?;
+    answer_with(rt, case, &mut players)
+}
 
 /// Plays a case, which begins behind the words `== case`, and tells what came of it.
 fn answer<R: AllocGlobal + Print + Threads + Wait + Sync>(rt: &R, text: &str) -> io::Result<()> {
     let (title, script) = text.split_once('\n').unwrap_or((text, ""));
     let title = title.trim();
     println!(rt; "== case {title}")?;
-    let Some(case) = Case::new(rt.alloc(), title, script) else {
-        return println!(rt; "no script");
-    };
-    match play(rt, rt.alloc(), &case)? {
-        Ok(played) => tell(rt, &case, &played),
-        Err(why) => println!(rt; "{why}"),
+    match Case::new(rt.alloc(), title, script) {
+        Some(case) => answer_case(rt, &case),
+        None => println!(rt; "no script"),
     }
+}
+
+/// Plays all cases of a table.
+fn answer_all<R: AllocGlobal + Print + Threads + Wait + Sync>(
+    rt: &R,
+    input: &str,
+) -> io::Result<()> {
+    for text in input.split("== case").skip(1) {
+        answer(rt, text)?;
+    }
+    Ok(())
 }
 
 fn main(rt: HostRuntime) -> io::Result<()> {
     let input = io::read_to_string(rt.alloc(), rt.reader())?;
-    for text in input.as_str().split("== case").skip(1) {
-        answer(&rt, text)?;
-    }
-    Ok(())
+    answer_all(&rt, input.as_str())
 }

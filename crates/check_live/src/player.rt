@@ -7,7 +7,7 @@ use std::alloc::{AllocError, Global};
 use std::sync::Wait;
 
 /// What has come of a step of a mutator.
-#[derive(Clone, Copy, PartialEq, Eq)]
+#[derive(Clone, Copy)]
 enum Step {
     /// An operation is done.
     Done,
@@ -22,7 +22,7 @@ enum Step {
 }
 
 /// How a thread plays.
-#[derive(Clone, Copy, PartialEq, Eq)]
+#[derive(Clone, Copy)]
 pub enum Way {
     /// It orders operations by turns, each under the lock.
     ByTurns,
@@ -77,12 +77,7 @@ impl Player {
     /// Orders the next operation, goes on with one that is open, or ends.
     fn step(&mut self, station: &mut Station) -> Step {
         if self.is_open {
-            return if station.is_open() {
-                let reply = station.go_on();
-                self.keep(reply, Step::Done)
-            } else {
-                self.keep(station.newest(), Step::Answered)
-            };
+            return self.go_on(station);
         }
         match self.operations.get(self.replies.len()) {
             Some(op) => self.order(station, op),
@@ -90,9 +85,19 @@ impl Player {
         }
     }
 
+    /// Goes on with the operation that is open, unless a pause has answered it.
+    fn go_on(&mut self, station: &mut Station) -> Step {
+        if station.is_open() {
+            let reply = station.go_on();
+            self.keep(reply, Step::Done)
+        } else {
+            self.keep(station.newest(), Step::Answered)
+        }
+    }
+
     /// Orders an operation.
     fn order(&mut self, station: &mut Station, op: Op) -> Step {
-        match station.operate(op) {
+        match operate(station, op) {
             Answer::Done(reply) => self.keep(Some(reply), Step::Done),
             Answer::Waits => {
                 self.is_open = true;
@@ -103,6 +108,11 @@ impl Player {
             Answer::Refused => Step::Wrong,
         }
     }
+}
+
+/// What an operation answers.
+fn operate(station: &mut Station, op: Op) -> Answer {
+    station.operate(op)
 }
 
 /// Does the end of a thread.
@@ -130,50 +140,57 @@ impl Player {
         let mut station = None;
         for _ in rt.forever() {
             let mut board = shared.wait(rt, Awaited::Turn(self.number));
-            if board.is_over() {
+            let goes_on = self.take_turn(alloc, &mut board, &mut station);
+            drop(board);
+            if !goes_on {
                 return;
             }
-            station = if self.way == Way::HelpsByTurns {
-                self.help_in_turn(&mut board)
-            } else {
-                self.take_turn(alloc, &mut board, station)
-            };
-            board.draw_turn();
-            drop(board);
             shared.tell_all();
         }
     }
 
-    /// Does one step in its turn. The station, if it keeps it.
+    /// Does something in its turn, and draws whose turn is next. Whether it goes on.
     fn take_turn(
         &mut self,
         alloc: Global,
         board: &mut Board,
-        station: Option<Station>,
-    ) -> Option<Station> {
-        let mut station = match station {
-            Some(station) => station,
-            None => board.let_out(self.number)?,
+        station: &mut Option<Station>,
+    ) -> bool {
+        if board.is_over() {
+            return false;
+        }
+        match self.way {
+            Way::HelpsByTurns => self.help_in_turn(board),
+            _ => self.step_in_turn(alloc, board, station),
+        }
+        board.draw_turn();
+        true
+    }
+
+    /// Does one step in its turn. It keeps the station unless it comes home.
+    fn step_in_turn(&mut self, alloc: Global, board: &mut Board, station: &mut Option<Station>) {
+        if station.is_none() {
+            *station = board.let_out(self.number);
+        }
+        let Some(held) = station.as_mut() else {
+            return;
         };
-        let step = self.look_or_step(board, &mut station);
-        if step == Step::Done || step == Step::Ended {
+        let step = self.look_or_step(board, held);
+        if is_call(step) {
             board.note_call(self.number);
         }
-        if step == Step::Done || step == Step::Answered {
-            return Some(station);
+        if !goes_on(step) {
+            *station = None;
+            board.sit(alloc, self.number, seat_of(step));
         }
-        station.come_home();
-        board.sit(alloc, self.number, seat_of(step));
-        None
     }
 
     /// Does some units of a helper in its turn. It keeps no station.
-    fn help_in_turn(&self, board: &mut Board) -> Option<Station> {
+    fn help_in_turn(&self, board: &mut Board) {
         let units = board.draw_units();
-        let mut station = board.let_out(self.number)?;
-        station.help(units);
-        station.come_home();
-        None
+        if let Some(mut station) = board.let_out(self.number) {
+            station.help(units);
+        }
     }
 
     /// Does a step; or none, as it is drawn, where a pause is wanted.
@@ -191,17 +208,22 @@ impl Player {
             let Some(station) = shared.let_out(rt, Awaited::Leave(self.number), self.number) else {
                 return;
             };
-            let seat = self.go_far(station);
+            let seat = self.go_and_come_home(station);
             shared.sit(rt, alloc, self.number, seat);
         }
     }
 
     /// Orders operation upon operation until a pause is wanted or it has ended, and comes home. Where it sits then.
-    fn go_far(&mut self, mut station: Station) -> Seat {
+    fn go_and_come_home(&mut self, mut station: Station) -> Seat {
+        self.go_far(&mut station)
+    }
+
+    /// Orders operation upon operation until a pause is wanted or it has ended. Where it sits then.
+    fn go_far(&mut self, station: &mut Station) -> Seat {
         let most = self.operations.len().saturating_add(2);
         for _ in 0..most {
-            let step = self.step(&mut station);
-            if step != Step::Done && step != Step::Answered {
+            let step = self.step(station);
+            if !goes_on(step) {
                 return seat_of(step);
             }
         }
@@ -219,6 +241,16 @@ impl Player {
             shared.pause_where_due(rt, alloc);
         }
     }
+}
+
+/// Whether a call is done with a step.
+fn is_call(step: Step) -> bool {
+    matches!(step, Step::Done | Step::Ended)
+}
+
+/// Whether a mutator does further steps after one.
+fn goes_on(step: Step) -> bool {
+    matches!(step, Step::Done | Step::Answered)
 }
 
 /// Where a mutator sits behind a step that isn't done.

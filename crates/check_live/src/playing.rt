@@ -1,21 +1,14 @@
 //! The threads of a case.
-use crate::board::{Board, Stand};
+use crate::board::Board;
 use crate::cases::Case;
 use crate::player::{Player, Way};
 use crate::shared::Shared;
-use lxr_shared_heap::{Heap, Resumed};
+use lxr_graph::Op;
+use lxr_shared_heap::Heap;
 use std::alloc::{AllocError, Global};
 use std::sync::Wait;
 use std::thread;
 use std::thread::Threads;
-
-/// What came of a case.
-#[derive(Drop)]
-pub struct Played {
-    pub board: Board,
-    /// The threads of the mutators, and then those of the helpers.
-    pub players: Vec<Player>,
-}
 
 /// How the mutators and helpers of a case play.
 fn ways_of(case: &Case<'_>) -> (Way, Way) {
@@ -34,29 +27,56 @@ fn helpers_in(case: &Case<'_>) -> usize {
     }
 }
 
-/// The threads of a case: one for each mutator, and those of the helpers behind them.
-fn players_of(alloc: Global, case: &Case<'_>) -> Result<Vec<Player>, AllocError> {
-    let (way, helping) = ways_of(case);
-    let mut players = Vec::new(alloc);
-    for operations in case.script.operations.as_slice() {
-        let number = players.len();
-        players.push(Player::new(alloc, number, way, operations.as_slice())?)?;
-    }
-    for _ in 0..helpers_in(case) {
-        let number = players.len();
-        players.push(Player::new(alloc, number, helping, &[])?)?;
-    }
-    Ok(players)
+/// Adds a thread.
+fn add(
+    alloc: Global,
+    players: &mut Vec<Player>,
+    way: Way,
+    operations: &[Op],
+) -> Result<(), AllocError> {
+    let player = Player::new(alloc, players.len(), way, operations)?;
+    players.push(player)?;
+    Ok(())
 }
 
-/// A heap in its first epoch, with the settings of a case.
-fn begin(alloc: Global, case: &Case<'_>) -> Option<Heap> {
-    let mut heap = Heap::open(alloc, case.settings()).ok()?;
-    if heap.resume(alloc) == Resumed::Open {
-        Some(heap)
-    } else {
-        None
+/// Adds a thread for each mutator.
+fn add_mutators(
+    alloc: Global,
+    case: &Case<'_>,
+    players: &mut Vec<Player>,
+    way: Way,
+) -> Result<(), AllocError> {
+    for operations in case.script.operations.as_slice() {
+        add(alloc, players, way, operations.as_slice())?;
     }
+    Ok(())
+}
+
+/// Adds the threads of helpers.
+fn add_helpers(
+    alloc: Global,
+    case: &Case<'_>,
+    players: &mut Vec<Player>,
+    way: Way,
+) -> Result<(), AllocError> {
+    for _ in 0..helpers_in(case) {
+        add(alloc, players, way, &[])?;
+    }
+    Ok(())
+}
+
+/// Adds the threads of a case.
+fn add_all(alloc: Global, case: &Case<'_>, players: &mut Vec<Player>) -> Result<(), AllocError> {
+    let (way, helping) = ways_of(case);
+    add_mutators(alloc, case, players, way)?;
+    add_helpers(alloc, case, players, helping)
+}
+
+/// The threads of a case: one for each mutator, and those of the helpers behind them.
+pub fn players_of(alloc: Global, case: &Case<'_>) -> Result<Vec<Player>, AllocError> {
+    let mut players = Vec::new(alloc);
+    add_all(alloc, case, &mut players)?;
+    Ok(players)
 }
 
 /// Lets each thread play.
@@ -75,24 +95,17 @@ fn play_all<R: Threads + Wait + Sync>(
     );
 }
 
-/// Plays a case. Else why it isn't played to its end.
+/// Plays a case on a heap. The board, as the threads leave it.
 pub fn play<R: Threads + Wait + Sync>(
     rt: &R,
     alloc: Global,
     case: &Case<'_>,
-) -> Result<Result<Played, &'static str>, AllocError> {
-    let mut players = players_of(alloc, case)?;
-    let Some(heap) = begin(alloc, case) else {
-        return Ok(Err("no heap"));
-    };
+    heap: Heap,
+    players: &mut [Player],
+) -> Board {
     let seed = case.turns().unwrap_or(0);
     let mutators = case.script.operations.len();
-    let board = Board::new(alloc, heap, mutators, players.len(), seed)?;
-    let shared = Shared::new(board);
-    play_all(rt, alloc, &shared, &mut players);
-    let board = shared.into_board();
-    match board.stand {
-        Stand::Wrong(why) => Ok(Err(why)),
-        _ => Ok(Ok(Played { board, players })),
-    }
+    let shared = Shared::new(Board::new(alloc, heap, mutators, players.len(), seed));
+    play_all(rt, alloc, &shared, players);
+    shared.into_board()
 }

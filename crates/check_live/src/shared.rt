@@ -28,14 +28,8 @@ impl Shared {
 
     /// Waits for something, and takes the lock then.
     pub fn wait<R: Wait>(&self, rt: &R, awaited: Awaited) -> MutexGuard<'_, Board> {
-        let mut board = self.board.lock(rt);
-        for _ in rt.forever() {
-            if board.has_come(awaited) {
-                return board;
-            }
-            board = self.changed.wait(rt, board);
-        }
-        unreachable!()
+        self.changed
+            .wait_while(rt, self.board.lock(rt), |board| !board.has_come(awaited))
     }
 
     /// Tells all that the board has changed.
@@ -45,11 +39,7 @@ impl Shared {
 
     /// Waits for something, and lets a pass out of its home then; none once all is over.
     pub fn let_out<R: Wait>(&self, rt: &R, awaited: Awaited, number: usize) -> Option<Station> {
-        let mut board = self.wait(rt, awaited);
-        if board.is_over() {
-            return None;
-        }
-        let station = board.let_out(number);
+        let station = self.wait(rt, awaited).let_out_to_play(number);
         if station.is_none() {
             self.tell_all();
         }

@@ -2,9 +2,9 @@
 ghost use Rattle.std.specs.Prelude.{◌+◌, ◌≤◌, length};
 ghost use Rattle.lxr_text_print.specs.declared.pages.TheConstants.{LINE, PAGE};
 
+use crate::board::{Board, Stand, thread_of};
 use crate::cases::Case;
 use crate::player::Player;
-use crate::playing::Played;
 use lxr_graph::{Op, Reply};
 use lxr_text_print::{Page, print_order, push_answer, push_thread, push_word};
 use lxr_text_stream::{Plenty, WriteError};
@@ -26,7 +26,13 @@ fn push_line(page: &mut Page, op: Op, reply: Reply)
 /// Prints the replies of a thread.
 fn print_player(player: &Player, text: &mut Plenty) -> Result<(), WriteError> {
     let mut page = Page::new();
-    push_thread(&mut page, player.number.saturating_add(1).min(255) as u8);
+    push_thread(&mut page, thread_of(player.number));
+    print_lines(player, &mut page, text)?;
+    page.flush(text)
+}
+
+/// Prints the lines of a thread.
+fn print_lines(player: &Player, page: &mut Page, text: &mut Plenty) -> Result<(), WriteError> {
     for (op, reply) in player
         .operations
         .as_slice()
@@ -34,34 +40,65 @@ fn print_player(player: &Player, text: &mut Plenty) -> Result<(), WriteError> {
         .zip(player.replies.as_slice())
     {
         page.make_room(text)?;
-        push_line(&mut page, *op, *reply);
-    }
-    page.flush(text)
-}
-
-/// Prints the replies of each thread, and the order, where that is asked for.
-fn print_replies(case: &Case<'_>, played: &Played, text: &mut Plenty) -> Result<(), WriteError> {
-    let mutators = usize::from(case.script.threads);
-    for player in played.players.iter().take(mutators) {
-        print_player(player, text)?;
-    }
-    if case.has("order") {
-        print_order(&played.board.order, text)?;
+        push_line(page, *op, *reply);
     }
     Ok(())
 }
 
-/// Tells the output of a case.
-pub fn tell<R: AllocGlobal + Print>(rt: &R, case: &Case<'_>, played: &Played) -> io::Result<()> {
-    let mut text = Plenty::new(rt.alloc());
-    if print_replies(case, played, &mut text).is_err() {
-        return println!(rt; "memory");
+/// Prints the replies of threads.
+fn print_players(players: &[Player], text: &mut Plenty) -> Result<(), WriteError> {
+    for player in players {
+        print_player(player, text)?;
     }
-    print!(rt;
-        "{}{}",
-        text_of(&played.board.watching.reports),
-        text_of(&text)
-    )
+    Ok(())
+}
+
+/// Prints the replies of each mutator's thread, and the order, where that is asked for.
+fn print_replies(
+    case: &Case<'_>,
+    board: &Board,
+    players: &[Player],
+    text: &mut Plenty,
+) -> Result<(), WriteError> {
+    let mutators = usize::from(case.script.threads).min(players.len());
+    print_players(&players[..mutators], text)?;
+    if case.has("order") {
+        print_order(&board.order, text)
+    } else {
+        Ok(())
+    }
+}
+
+/// Tells the output of a case; or why it wasn't played to its end.
+pub fn tell<R: AllocGlobal + Print>(
+    rt: &R,
+    case: &Case<'_>,
+    board: &Board,
+    players: &[Player],
+) -> io::Result<()> {
+    match board.stand {
+        Stand::Wrong(why) => println!(rt; "{why}"),
+        _ => tell_played(rt, case, board, players),
+    }
+}
+
+/// Tells the reports and the replies of a case that was played.
+fn tell_played<R: AllocGlobal + Print>(
+    rt: &R,
+    case: &Case<'_>,
+    board: &Board,
+    players: &[Player],
+) -> io::Result<()> {
+    let mut text = Plenty::new(rt.alloc());
+    match print_replies(case, board, players, &mut text) {
+        Ok(()) => tell_both(rt, &board.watching.reports, &text),
+        Err(_) => println!(rt; "memory"),
+    }
+}
+
+/// Tells what was written to one stream, and then what was to another.
+fn tell_both<R: Print>(rt: &R, reports: &Plenty, replies: &Plenty) -> io::Result<()> {
+    print!(rt; "{}{}", text_of(reports), text_of(replies))
 }
 
 /// What was written.

@@ -4,7 +4,7 @@ use lxr_image::Space;
 use lxr_sights::Watch;
 use lxr_text_print::print_pause;
 use lxr_text_stream::Plenty;
-use std::alloc::{AllocError, Global};
+use std::alloc::Global;
 
 /// A pause, and how many `new`s were served before it and behind it, counted from the first pause on.
 #[derive(Clone, Copy)]
@@ -20,6 +20,28 @@ pub struct Answered {
     /// The number of its thread, from 1 on.
     pub thread: u8,
     pub is_full: bool,
+}
+
+/// How many `new`s are served after a pause, how many of them are left, and whether it collects.
+#[derive(Drop)]
+struct Serving {
+    served: u64,
+    left: u64,
+    collects: bool,
+}
+
+impl Serving {
+    /// Whether a `new` was answered after this pause: a refused one after a collection, before all others.
+    fn answers(&mut self, is_full: bool) -> bool {
+        if is_full {
+            return self.collects && self.left == self.served;
+        }
+        if self.left == 0 {
+            return false;
+        }
+        self.left -= 1;
+        true
+    }
 }
 
 /// A watch that prints the reports of pauses, without counts, which nobody has told then, and notes what it sees of those of one call.
@@ -44,15 +66,21 @@ impl Watching {
     }
 
     /// Adds the pauses of one call to an order, with the `new`s that were answered at them, and forgets them.
-    pub fn note(&mut self, answered: &[Answered], order: &mut Items) -> Result<(), AllocError> {
+    pub fn note(&mut self, answered: &[Answered], order: &mut Items) {
         let mut at = 0;
         for number in 0..self.pauses.len() {
-            order.try_push(Item::Pause)?;
-            let served = self.served(number);
-            at = self.note_behind(number, served, answered, at, order)?;
+            self.add(Item::Pause, order);
+            let mut serving = self.serving(number);
+            at = self.note_behind(&mut serving, answered, at, order);
         }
         self.pauses.clear();
-        Ok(())
+    }
+
+    /// Adds an item to an order.
+    fn add(&mut self, item: Item, order: &mut Items) {
+        if order.try_push(item).is_err() {
+            self.is_lost = true;
+        }
     }
 
     /// How many `new`s were served behind a pause.
@@ -66,33 +94,56 @@ impl Watching {
         }
     }
 
+    /// What is served after a pause.
+    fn serving(&self, number: usize) -> Serving {
+        let served = self.served(number);
+        Serving {
+            served,
+            left: served,
+            collects: self.pauses.get(number).is_some_and(|seen| seen.collects),
+        }
+    }
+
     /// Adds the `new`s that were answered behind a pause, from one on. The first that wasn't.
     fn note_behind(
-        &self,
-        number: usize,
-        served: u64,
+        &mut self,
+        serving: &mut Serving,
         answered: &[Answered],
         from: usize,
         order: &mut Items,
-    ) -> Result<usize, AllocError> {
-        let collects = self.pauses.get(number).is_some_and(|seen| seen.collects);
-        let mut left = served;
+    ) -> usize {
         for at in from..answered.len() {
             let Answered { thread, is_full } = answered[at];
-            let is_here = if is_full {
-                collects && left == served
-            } else {
-                left > 0
-            };
-            if !is_here {
-                return Ok(at);
+            if !serving.answers(is_full) {
+                return at;
             }
-            if !is_full {
-                left -= 1;
-            }
-            order.try_push(Item::Call(thread))?;
+            self.add(Item::Call(thread), order);
         }
-        Ok(answered.len())
+        answered.len()
+    }
+
+    /// Sees a space before a pause.
+    fn see_before(&mut self, space: &Space) {
+        let news = space.tally.news;
+        let seen = Seen {
+            before: news,
+            behind: news,
+            collects: false,
+        };
+        if self.pauses.push(seen).is_err() {
+            self.is_lost = true;
+        }
+    }
+
+    /// Sees a space after a pause.
+    fn see_behind(&mut self, space: &Space) {
+        if let Some(last) = self.pauses.last_mut() {
+            last.behind = space.tally.news;
+            last.collects = matches!(space.report.kind, Kind::Collect);
+        }
+        if print_pause(&space.report, false, &mut self.reports).is_err() {
+            self.is_lost = true;
+        }
     }
 }
 
@@ -102,24 +153,10 @@ impl Watch for Watching {
     ghost seen = { λ _. None };
 
     fn look(&mut self, space: &Space) {
-        let news = space.tally.news;
         if self.is_behind {
-            if let Some(last) = self.pauses.last_mut() {
-                last.behind = news;
-                last.collects = space.report.kind == Kind::Collect;
-            }
-            if print_pause(&space.report, false, &mut self.reports).is_err() {
-                self.is_lost = true;
-            }
+            self.see_behind(space);
         } else {
-            let seen = Seen {
-                before: news,
-                behind: news,
-                collects: false,
-            };
-            if self.pauses.push(seen).is_err() {
-                self.is_lost = true;
-            }
+            self.see_before(space);
         }
         self.is_behind = !self.is_behind;
     }

@@ -10,16 +10,22 @@ mod passes;
 ghost use Rattle.std.specs.Prelude.{◌≡◌, ℕ, Bool, true, false, Option, OnErr, Result, option_map};
 ghost use Rattle.lxr_layout.specs.declared.Shape.{Shape as ShapeOf};
 ghost use Rattle.lxr_heap.specs.declared.bulk.BodyReply.{BodyReply as BodyReplyOf};
-ghost use Rattle.lxr_c_base.specs.Codes.{answered as is_answered, code_in, flag as is_flag, number_of, told, written_over};
+ghost use Rattle.lxr_c_base.specs.Codes.{Answer, answered as is_answered, code_in, flag as is_flag, number_of, told, written_over};
 ghost use Rattle.lxr_c_base.specs.Requests as asking;
 ghost use Rattle.lxr_c_base.specs.declared.codes.Code.{Code as CodeOf};
 ghost use Rattle.lxr_c_heap.specs.Calling.{AsksPause, Calls, Closes, Opens, SetsPace};
 ghost use Rattle.lxr_c_heap.specs.Hosting.{Makes, Replies, Stores};
 ghost use Rattle.lxr_c_heap.specs.Looking as looking;
 ghost use Rattle.lxr_c_heap.specs.Looking.{Counts, Looks, SeesNil, SeesShape, SeesWords, Tells, Writes, bulk_code as is_bulk_code, counted_by, of_object as is_of_object};
+ghost use Rattle.lxr_c_many.specs.declared.applying.Applied.{Applied as AppliedOf};
+ghost use Rattle.lxr_c_many.specs.Applying.{AppliesAll, applied_code, applied_count};
+ghost use Rattle.lxr_c_many.specs.Calling.{Does, LoadsReferences, PutsWords, SeesFields, StoresReferences};
+ghost use Rattle.lxr_c_many.specs.Fields.{base_of_loads, base_of_stores};
+ghost use Rattle.lxr_c_many.specs.Making.{MakesWith, wanted_of};
 
 use lxr_c_base::{Code, code_of, requests};
 use lxr_c_heap::{Handle, Settings};
+use lxr_c_many::Operation;
 use lxr_graph::Reply;
 use lxr_heap::BodyReply;
 use lxr_large_model::LargeReply;
@@ -318,6 +324,72 @@ pub extern "C" fn lxr_large_write(heap: &mut Handle, base: u32, index: u32, from
     bulk_code(heap.write(base, index, from)).number()
 }
 
+/// Register `dest` gets a new object with a reference for each of the sources, which is what that register holds, and these data words.
+#[unsafe(no_mangle)]
+pub extern "C" fn lxr_new_with(heap: &mut Handle, dest: u32, sources: &[u32], words: &[u64]) -> u32
+    ensures { (answer : Answer) × Does (MakesWith sources.now words.now) heap.old.block.value heap.new.block.value (wanted_of dest sources.now words.now) answer × (result ≡ is_answered answer) }
+{
+    answered(lxr_c_many::new_with(heap, dest, sources, words))
+}
+
+/// Reads data words of the object that `base` holds, from `first` on: all of them or none.
+#[unsafe(no_mangle)]
+pub extern "C" fn lxr_get_many(heap: &mut Handle, base: u32, first: u32, words: &mut [u64]) -> u32
+    ensures { (answer : Result BodyReplyOf CodeOf) × Looks (SeesFields first words.old words.new) heap.old.block.value heap.new.block.value (asking.register_of base) answer
+        × OnErr answer (words.new ≡ words.old) × (result ≡ number_of (is_bulk_code answer)) }
+{
+    bulk_code(lxr_c_many::get_many(heap, base, first, words)).number()
+}
+
+/// Writes over data words of the object that `base` holds, from `first` on: all of them or none.
+#[unsafe(no_mangle)]
+pub extern "C" fn lxr_put_many(heap: &mut Handle, base: u32, first: u32, words: &[u64]) -> u32
+    ensures { (answer : Result BodyReplyOf CodeOf) × Does (PutsWords first words.now) heap.old.block.value heap.new.block.value (asking.register_of base) answer
+        × (result ≡ number_of (is_bulk_code answer)) }
+{
+    bulk_code(lxr_c_many::put_many(heap, base, first, words)).number()
+}
+
+/// Registers get references of the object that `base` holds, from `first` on: all of them or none.
+#[unsafe(no_mangle)]
+pub extern "C" fn lxr_load_many(heap: &mut Handle, base: u32, first: u32, registers: &[u32]) -> u32
+    ensures { (answer : Result BodyReplyOf CodeOf) × Does (LoadsReferences first registers.now) heap.old.block.value heap.new.block.value (base_of_loads base registers.now) answer
+        × (result ≡ number_of (is_bulk_code answer)) }
+{
+    bulk_code(lxr_c_many::load_many(heap, base, first, registers)).number()
+}
+
+/// References of the object that `base` holds, from `first` on, become what registers hold: all of them or none.
+#[unsafe(no_mangle)]
+pub extern "C" fn lxr_store_many(heap: &mut Handle, base: u32, first: u32, registers: &[u32]) -> u32
+    ensures { (answer : Result BodyReplyOf CodeOf) × Does (StoresReferences first registers.now) heap.old.block.value heap.new.block.value (base_of_stores base registers.now) answer
+        × (result ≡ number_of (is_bulk_code answer)) }
+{
+    bulk_code(lxr_c_many::store_many(heap, base, first, registers)).number()
+}
+
+/// Does operations in turn, up to the first that isn't done with success, and writes how many were.
+#[unsafe(no_mangle)]
+pub extern "C" fn lxr_apply(
+    heap: &mut Handle,
+    operations: &mut [Operation],
+    done: &mut usize,
+) -> u32
+    ensures { (answer : Result AppliedOf CodeOf) × AppliesAll heap.old.block.value heap.new.block.value operations.old operations.new answer
+        × (result ≡ number_of (applied_code answer)) × (done.new ≡ applied_count answer) }
+{
+    match lxr_c_many::apply(heap, operations) {
+        Err(code) => {
+            *done = 0;
+            code.number()
+        }
+        Ok(applied) => {
+            *done = applied.done;
+            applied.code.number()
+        }
+    }
+}
+
 /// Writes how many there are of what `what` counts.
 #[unsafe(no_mangle)]
 pub extern "C" fn lxr_count(heap: &mut Handle, what: u32, number: &mut u64) -> u32
@@ -332,6 +404,3 @@ pub extern "C" fn lxr_count(heap: &mut Handle, what: u32, number: &mut u64) -> u
         }
     }
 }
-
-#[cfg(test)]
-mod tests;

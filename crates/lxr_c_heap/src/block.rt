@@ -68,7 +68,7 @@ impl Block {
 
     /// Lends the heap to a call, on the condition that there is one.
     #[inline(always)]
-    pub(crate) fn lend(&mut self) -> &mut HostHeap
+    pub fn lend(&mut self) -> &mut HostHeap
         requires { IsSome self.old.value }
         ensures* writes_back { sem 𝓛 (LendsHeap self.entry result) }
         ensures heap { self.old.value ≡ Some result.now }

@@ -44,7 +44,7 @@ impl Handle {
 
     /// Says so where there is no heap.
     #[inline(always)]
-    pub(crate) fn found(&self) -> Result<(), Code>
+    pub fn found(&self) -> Result<(), Code>
         ensures { Finds self.now.block.value result }
     {
         if !self.has_heap() {

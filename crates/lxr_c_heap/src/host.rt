@@ -77,7 +77,7 @@ impl HostHeap {
 
     /// Makes a pause.
     #[inline(never)]
-    pub(crate) fn pause(&mut self, collect: bool)
+    pub fn pause(&mut self, collect: bool)
         requires number { self.old.heap.space.pauses + 1 < 2 ^ 32 }
         ensures { (h : List LargeItem) → IsHeapOf self.old.heap h → Pauses self.old self.new h collect }
     {
@@ -97,7 +97,7 @@ impl HostHeap {
 
     /// Where it is at an end, collects and gives all objects that are left new names.
     #[inline(always)]
-    pub(crate) fn settle(&mut self, ends: Ends)
+    pub fn settle(&mut self, ends: Ends)
         requires serving { IsServing self.old }
         requires ends { IsWithin ends }
         ensures settled { (h : List LargeItem) → IsHeapOf self.old.heap h → (k : List LargeItem) × SettlesAt ends self.old h self.new k }
@@ -186,7 +186,7 @@ impl HostHeap {
 
     /// Does an operation that makes no object and stores no reference.
     #[inline(always)]
-    pub(crate) fn reply(&mut self, op: LargeOp) -> LargeReply
+    pub fn reply(&mut self, op: LargeOp) -> LargeReply
         requires serving { IsServing self.old }
         requires op { IsQuiet op }
         ensures replies { (h : List LargeItem) → IsHeapOf self.old.heap h → Replies self.old self.new h op result }
@@ -200,7 +200,7 @@ impl HostHeap {
 
     /// Stores a reference.
     #[inline(always)]
-    pub(crate) fn store(&mut self, op: LargeOp) -> LargeReply
+    pub fn store(&mut self, op: LargeOp) -> LargeReply
         requires serving { IsServing self.old }
         requires op { IsStoring op }
         ensures stores { (h : List LargeItem) → IsHostOf self.old h → Stores self.old self.new h op result }
@@ -212,7 +212,7 @@ impl HostHeap {
 
     /// Makes an object.
     #[inline(always)]
-    pub(crate) fn make(&mut self, op: LargeOp) -> LargeReply
+    pub fn make(&mut self, op: LargeOp) -> LargeReply
         requires serving { IsServing self.old }
         requires op { IsMaking op }
         ensures makes { (h : List LargeItem) → IsHostOf self.old h → Makes self.old self.new h op result }

@@ -15,5 +15,5 @@ mod settings;
 
 pub use crossing::handles_cross;
 pub use handle::Handle;
-pub use host::Ends;
+pub use host::{ENDS, Ends, HostHeap};
 pub use settings::Settings;

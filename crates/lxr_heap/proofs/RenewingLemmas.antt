@@ -272,6 +272,7 @@ module _ (x y : Heap) (h : List LargeItem) (fresh : IsTrue x.fresh) (tells : Tel
       bodies = ap (λ (z : Heap). record z.bodies { bodies = map (renamed ns) z.bodies.bodies }) tells.heap;
       terms = terms ∙ ap terms_of tells.heap;
       told = ap (λ (s : Space). map counted_name s.report.told.items) r.space ∙ tells.names ∙ names;
+      counts = ap (λ (s : Space). s.report.told.items) r.space ∙ tells.counts f;
       holds = record {
         legal = subst (λ t. IsLegalLarge t (Renewed ns ∷ h)) (sym terms) (is.legal, record { fresh = f; names = names });
         at = r.at;

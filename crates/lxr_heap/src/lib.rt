@@ -162,8 +162,8 @@ impl LargeHeap {
     /// Gives each object that is left a new name, 1.1, 1.2, 1.3, .., in order of the old ones, and counts pauses from 0 again, so that a
     /// heap lives for ever though names and pauses have 32 bits. It stands behind a pause that collected, with nothing but refusals (`full`)
     /// and other renewals between. What registers and objects refer to and the words of bodies are as they were, and nothing moves. The last
-    /// pause's report stays, but for `told`, which lists what was left, with the old names. It takes no memory: it tells what is left, goes
-    /// once more over the heap's start bits, and looks up each name.
+    /// pause's report stays, but for `told`, which lists what was left with its counts, under the old names. It takes no memory: it tells what
+    /// is left, goes once more over the heap's start bits, and looks up each name.
     pub fn renew(&mut self)
         requires fresh { IsTrue self.old.fresh }
         ensures { (h : List LargeItem) → IsHeapOf self.old h → RenewsHeap self.old self.new h }

@@ -23,6 +23,12 @@ struct calls {
     lxr_code (*nil)(lxr_heap *, uint32_t);
     lxr_code (*is_nil)(const lxr_heap *, uint32_t, uint32_t *);
     lxr_code (*shape)(const lxr_heap *, uint32_t, uint32_t *, uint32_t *, uint32_t *);
+    lxr_code (*new_with)(lxr_heap *, uint32_t, const uint32_t *, size_t, const uint64_t *, size_t);
+    lxr_code (*get_many)(const lxr_heap *, uint32_t, uint32_t, uint64_t *, size_t);
+    lxr_code (*put_many)(lxr_heap *, uint32_t, uint32_t, const uint64_t *, size_t);
+    lxr_code (*load_many)(lxr_heap *, uint32_t, uint32_t, const uint32_t *, size_t);
+    lxr_code (*store_many)(lxr_heap *, uint32_t, uint32_t, const uint32_t *, size_t);
+    lxr_code (*apply)(lxr_heap *, lxr_operation *, size_t, size_t *);
     lxr_code (*large_new)(lxr_heap *, uint32_t, uint32_t);
     lxr_code (*large_get)(const lxr_heap *, uint32_t, uint32_t, uint64_t *);
     lxr_code (*large_put)(lxr_heap *, uint32_t, uint32_t, uint64_t);

@@ -47,7 +47,32 @@ static void is_untouched(int line) {
 /* A refused call. */
 #define REFUSED(call, code) (wipe(), check(call, code, #call, __LINE__), is_untouched(__LINE__))
 
+/* Operations: the call's code, and how many are done, which is told at any code. */
+#define APPLIES(heap, operations, count, code, are_done) \
+    (done = UNTOUCHED, check(lxr_apply(heap, operations, count, &done), code, "lxr_apply", __LINE__), \
+     check(done, are_done, "the operations that are done", __LINE__))
+
+static size_t done;
+
+/* Registers and words of more fields than an object has. */
+static uint32_t long_registers[LXR_MOST_REFS + 2];
+static uint64_t long_words[LXR_MOST_WORDS + 2];
+
 /* ---- Handles ---- */
+
+static void refuses_several(lxr_heap *heap, uint32_t n) {
+    const uint32_t some[2] = { n, n };
+    lxr_operation operations[2] = { { n, n, n, n, UNTOUCHED }, { LXR_OP_GET, 1, 0, 0, UNTOUCHED } };
+    REFUSED(lxr_new_with(heap, n, some, 2, many, 8), LXR_E_NO_HEAP);
+    REFUSED(lxr_get_many(heap, n, n, many, 8), LXR_E_NO_HEAP);
+    REFUSED(lxr_put_many(heap, n, n, many, 8), LXR_E_NO_HEAP);
+    REFUSED(lxr_load_many(heap, n, n, some, 2), LXR_E_NO_HEAP);
+    REFUSED(lxr_store_many(heap, n, n, some, 2), LXR_E_NO_HEAP);
+    REFUSED(lxr_get_many(heap, n, n, many, 0), LXR_E_NO_HEAP);
+    APPLIES(heap, operations, 2, LXR_E_NO_HEAP, 0);
+    APPLIES(heap, operations, 0, LXR_E_NO_HEAP, 0);
+    for (int at = 0; at < 2; at++) IS(operations[at].word, UNTOUCHED);
+}
 
 /* Each call on an empty handle, with numbers that would be right and with ones that never are. */
 static void refuses_all(lxr_heap *heap) {
@@ -70,6 +95,7 @@ static void refuses_all(lxr_heap *heap) {
         REFUSED(lxr_large_put(heap, n, n, 7), LXR_E_NO_HEAP);
         REFUSED(lxr_large_read(heap, n, n, many, 8), LXR_E_NO_HEAP);
         REFUSED(lxr_large_write(heap, n, n, many, 8), LXR_E_NO_HEAP);
+        refuses_several(heap, n);
         REFUSED(lxr_pause(heap), LXR_E_NO_HEAP);
         REFUSED(lxr_collect(heap), LXR_E_NO_HEAP);
         REFUSED(lxr_set_pace(heap, n), LXR_E_NO_HEAP);
@@ -181,7 +207,126 @@ static void two_heaps(void) {
     IS(lxr_close(&left), LXR_OK);
 }
 
+/* ---- Operations ---- */
+
+/* One operation that is refused, after one that would change register 1's object: that isn't done either. */
+static void refuses_operation(lxr_heap *heap, lxr_operation it, lxr_code code, int line) {
+    lxr_operation operations[3] = { { LXR_OP_PUT, 1, 0, LAST, 99 }, it, { LXR_OP_NIL, 1, LAST, LAST, 0 } };
+    done = UNTOUCHED;
+    check(lxr_apply(heap, operations, 3, &done), code, "lxr_apply", line);
+    check(done, 0, "the operations that are done", line);
+    check(operations[1].word, it.word, "the word of a refused operation", line);
+    check(lxr_get(heap, 1, 0, &wide), LXR_OK, "lxr_get", line);
+    check(wide, 10, "a word after refused operations", line);
+}
+
+#define REFUSES(heap, op, a, b, c, code) refuses_operation(heap, (lxr_operation){ op, a, b, c, UNTOUCHED }, code, __LINE__)
+
+static void registers_of_operations(lxr_heap *heap, uint32_t n) {
+    REFUSES(heap, LXR_OP_NEW, n, 1, 1, LXR_E_REGISTER);
+    REFUSES(heap, LXR_OP_NEW, n, LAST, 1024, LXR_E_REGISTER);
+    REFUSES(heap, LXR_OP_LOAD, n, 1, 0, LXR_E_REGISTER);
+    REFUSES(heap, LXR_OP_LOAD, 3, n, LAST, LXR_E_REGISTER);
+    REFUSES(heap, LXR_OP_STORE, n, 0, 3, LXR_E_REGISTER);
+    REFUSES(heap, LXR_OP_STORE, 1, LAST, n, LXR_E_REGISTER);
+    REFUSES(heap, LXR_OP_GET, n, 0, 0, LXR_E_REGISTER);
+    REFUSES(heap, LXR_OP_PUT, n, 0, 0, LXR_E_REGISTER);
+    REFUSES(heap, LXR_OP_SAME, n, 1, 0, LXR_E_REGISTER);
+    REFUSES(heap, LXR_OP_SAME, 1, n, 0, LXR_E_REGISTER);
+    REFUSES(heap, LXR_OP_MOVE, n, 1, 0, LXR_E_REGISTER);
+    REFUSES(heap, LXR_OP_MOVE, 3, n, 0, LXR_E_REGISTER);
+    REFUSES(heap, LXR_OP_NIL, n, 0, 0, LXR_E_REGISTER);
+    REFUSES(heap, LXR_OP_IS_NIL, n, 0, 0, LXR_E_REGISTER);
+}
+
+/* Operations that there aren't, whatever their numbers; sizes; and which of several is told: the first. */
+static void operations_that_are_none(lxr_heap *heap) {
+    static const uint32_t wrong[] = { 9, 10, 11, 255, 256, 1u << 31, LAST };
+    for (size_t at = 0; at < sizeof wrong / sizeof *wrong; at++) {
+        REFUSES(heap, wrong[at], 1, 1, 1, LXR_E_WHAT);
+        REFUSES(heap, wrong[at], LAST, LAST, LAST, LXR_E_WHAT);
+        lxr_operation two[2] = { { LXR_OP_NIL, 16, 0, 0, 0 }, { wrong[at], 0, 0, 0, 0 } };
+        APPLIES(heap, two, 2, LXR_E_REGISTER, 0);
+        two[0] = (lxr_operation){ wrong[at], 16, 0, 0, 0 };
+        two[1] = (lxr_operation){ LXR_OP_NEW, 3, 1024, 0, 0 };
+        APPLIES(heap, two, 2, LXR_E_WHAT, 0);
+    }
+    REFUSES(heap, LXR_OP_NEW, 3, 1024, 0, LXR_E_SIZE);
+    REFUSES(heap, LXR_OP_NEW, 3, 0, 1024, LXR_E_SIZE);
+    REFUSES(heap, LXR_OP_NEW, 3, LAST, LAST, LXR_E_SIZE);
+    lxr_operation two[2] = { { LXR_OP_NEW, 3, 0, 1024, 0 }, { LXR_OP_NIL, 16, 0, 0, 0 } };
+    APPLIES(heap, two, 2, LXR_E_SIZE, 0);
+    APPLIES(heap, two, 0, LXR_OK, 0);
+}
+
+/* What an operation finds as it comes: those before it are done, and none after it. */
+static void operations_that_stop(lxr_heap *heap, lxr_operation it, lxr_code code) {
+    lxr_operation operations[4] = {
+        { LXR_OP_PUT, 1, 0, LAST, 99 }, { LXR_OP_GET, 1, 1, LAST, UNTOUCHED }, it, { LXR_OP_PUT, 1, 0, 0, 98 }
+    };
+    APPLIES(heap, operations, 4, code, 2);
+    IS(operations[1].word, 11);
+    IS(operations[2].word, UNTOUCHED);
+    IS(lxr_get(heap, 1, 0, &wide), LXR_OK);
+    IS(wide, 99);
+    IS(lxr_put(heap, 1, 0, 10), LXR_OK);
+}
+
+#define STOPS(heap, op, a, b, c, code) operations_that_stop(heap, (lxr_operation){ op, a, b, c, UNTOUCHED }, code)
+
+static void stops(lxr_heap *heap) {
+    STOPS(heap, LXR_OP_LOAD, 3, 15, LAST, LXR_E_NIL);
+    STOPS(heap, LXR_OP_STORE, 15, LAST, 1, LXR_E_NIL);
+    STOPS(heap, LXR_OP_GET, 15, 0, 0, LXR_E_NIL);
+    STOPS(heap, LXR_OP_PUT, 15, 0, 0, LXR_E_NIL);
+    STOPS(heap, LXR_OP_LOAD, 3, 1, 2, LXR_E_INDEX);
+    STOPS(heap, LXR_OP_STORE, 1, 2, 1, LXR_E_INDEX);
+    STOPS(heap, LXR_OP_GET, 1, 3, 0, LXR_E_INDEX);
+    STOPS(heap, LXR_OP_PUT, 1, LAST, 0, LXR_E_INDEX);
+    STOPS(heap, LXR_OP_GET, 2, 0, 0, LXR_E_INDEX);
+}
+
 /* ---- Numbers ---- */
+
+/* A register above 15, in each place of several, also where much else is wrong. */
+static void registers_of_several(lxr_heap *heap, uint32_t n) {
+    REFUSED(lxr_new_with(heap, n, long_registers, 2, many, 8), LXR_E_REGISTER);
+    REFUSED(lxr_new_with(heap, n, long_registers, 1024, long_words, 1024), LXR_E_REGISTER);
+    REFUSED(lxr_get_many(heap, n, 0, many, 8), LXR_E_REGISTER);
+    REFUSED(lxr_put_many(heap, n, LAST, many, 8), LXR_E_REGISTER);
+    REFUSED(lxr_load_many(heap, n, 0, long_registers, 2), LXR_E_REGISTER);
+    REFUSED(lxr_store_many(heap, n, LAST, long_registers, 2), LXR_E_REGISTER);
+    REFUSED(lxr_get_many(heap, n, 0, many, 0), LXR_E_REGISTER);
+    for (size_t at = 0; at < 4; at++) {
+        uint32_t some[4] = { 3, 4, 5, 6 };
+        some[at] = n;
+        REFUSED(lxr_new_with(heap, 7, some, 4, many, 8), LXR_E_REGISTER);
+        REFUSED(lxr_new_with(heap, 7, some, 4, many, 1024), LXR_E_REGISTER);
+        REFUSED(lxr_load_many(heap, 1, 0, some, 4), LXR_E_REGISTER);
+        REFUSED(lxr_load_many(heap, 15, LAST, some, 4), LXR_E_REGISTER);
+        REFUSED(lxr_store_many(heap, 1, 0, some, 4), LXR_E_REGISTER);
+        REFUSED(lxr_store_many(heap, 15, LAST, some, 4), LXR_E_REGISTER);
+    }
+    long_registers[1023] = n;
+    REFUSED(lxr_new_with(heap, 7, long_registers, 1024, many, 8), LXR_E_REGISTER);
+    REFUSED(lxr_load_many(heap, 1, 0, long_registers, 1024), LXR_E_REGISTER);
+    REFUSED(lxr_store_many(heap, 1, 0, long_registers, 1024), LXR_E_REGISTER);
+    long_registers[1023] = 3;
+}
+
+/* A register that is written to, among those that are read. */
+static void registers_among_others(lxr_heap *heap) {
+    for (size_t at = 0; at < 4; at++) {
+        uint32_t some[4] = { 3, 4, 5, 6 };
+        some[at] = 1;
+        REFUSED(lxr_new_with(heap, 1, some, 4, many, 8), LXR_E_REGISTER);
+        REFUSED(lxr_new_with(heap, 1, some, 4, many, 1024), LXR_E_REGISTER);
+        REFUSED(lxr_load_many(heap, 1, 0, some, 4), at < 3 ? LXR_E_REGISTER : LXR_E_INDEX);
+        REFUSED(lxr_store_many(heap, 1, 0, some, 4), LXR_E_INDEX);
+        some[3] = 1;
+        REFUSED(lxr_load_many(heap, 1, LAST, some, 4), at < 3 ? LXR_E_REGISTER : LXR_E_INDEX);
+    }
+}
 
 /* A register above 15, in each place that has one. */
 static void registers(lxr_heap *heap) {
@@ -211,7 +356,28 @@ static void registers(lxr_heap *heap) {
         REFUSED(lxr_large_put(heap, n, 0, 7), LXR_E_REGISTER);
         REFUSED(lxr_large_read(heap, n, 0, many, 8), LXR_E_REGISTER);
         REFUSED(lxr_large_write(heap, n, 0, many, 8), LXR_E_REGISTER);
+        registers_of_several(heap, n);
+        registers_of_operations(heap, n);
     }
+    registers_among_others(heap);
+}
+
+static void sizes_of_several(lxr_heap *heap) {
+    static const size_t wrong[] = {
+        1024,         1025,          65535,         65536,        SIZE_MAX >> 32, (SIZE_MAX >> 32) + 1, (SIZE_MAX >> 32) + 2,
+        SIZE_MAX / 8, SIZE_MAX >> 2, SIZE_MAX >> 1, SIZE_MAX - 1, SIZE_MAX
+    };
+    for (size_t at = 0; at < sizeof wrong / sizeof *wrong; at++) {
+        REFUSED(lxr_new_with(heap, 5, long_registers, 0, many, wrong[at]), LXR_E_SIZE);
+        REFUSED(lxr_new_with(heap, 5, long_registers, 1024, many, wrong[at]), LXR_E_SIZE);
+        REFUSED(lxr_get_many(heap, 1, 0, many, wrong[at]), LXR_E_INDEX);
+        REFUSED(lxr_put_many(heap, 1, 0, many, wrong[at]), LXR_E_INDEX);
+        REFUSED(lxr_get_many(heap, 1, 2, many, wrong[at]), LXR_E_INDEX);
+        REFUSED(lxr_put_many(heap, 1, LAST, many, wrong[at]), LXR_E_INDEX);
+    }
+    REFUSED(lxr_new_with(heap, 5, long_registers, 1024, many, 0), LXR_E_SIZE);
+    REFUSED(lxr_new_with(heap, 5, long_registers, 1025, long_words, 1025), LXR_E_SIZE);
+    REFUSED(lxr_new_with(heap, 5, long_registers, 1024, long_words, 1023), LXR_E_SIZE);
 }
 
 static void sizes(lxr_heap *heap) {
@@ -224,6 +390,7 @@ static void sizes(lxr_heap *heap) {
     }
     REFUSED(lxr_large_new(heap, 5, 0), LXR_E_SIZE);
     REFUSED(lxr_large_new(heap, 5, 129), LXR_E_SIZE);
+    sizes_of_several(heap);
 }
 
 static void nils(lxr_heap *heap) {
@@ -238,6 +405,12 @@ static void nils(lxr_heap *heap) {
         REFUSED(lxr_large_put(heap, 15, index, 7), LXR_E_NIL);
         REFUSED(lxr_large_read(heap, 15, index, many, 8), LXR_E_NIL);
         REFUSED(lxr_large_write(heap, 15, index, many, 8), LXR_E_NIL);
+        for (size_t count = 0; count < 3; count++) {
+            REFUSED(lxr_get_many(heap, 15, index, many, count), LXR_E_NIL);
+            REFUSED(lxr_put_many(heap, 15, index, many, count), LXR_E_NIL);
+            REFUSED(lxr_load_many(heap, 15, index, long_registers, count), LXR_E_NIL);
+            REFUSED(lxr_store_many(heap, 15, index, long_registers, count), LXR_E_NIL);
+        }
     }
     REFUSED(lxr_shape(heap, 15, &refs, &words, &blocks), LXR_E_NIL);
 }
@@ -264,6 +437,39 @@ static void indices(lxr_heap *heap) {
     REFUSED(lxr_store(heap, 0, LXR_WORLD_REFS, 0), LXR_E_INDEX);
     REFUSED(lxr_get(heap, 0, 0, &wide), LXR_E_INDEX);
     REFUSED(lxr_put(heap, 0, 0, 7), LXR_E_INDEX);
+}
+
+/* Fields that aren't all there, from `first` on: the object has `refs_there` references and `words_there` words. */
+static void fields_of_several(lxr_heap *heap, uint32_t base, uint32_t first, uint32_t refs_there, uint32_t words_there) {
+    for (size_t count = 0; count < 5; count++) {
+        if (first + count > words_there) {
+            REFUSED(lxr_get_many(heap, base, first, many, count), LXR_E_INDEX);
+            REFUSED(lxr_put_many(heap, base, first, many, count), LXR_E_INDEX);
+        }
+        if (first + count > refs_there) {
+            REFUSED(lxr_load_many(heap, base, first, long_registers, count), LXR_E_INDEX);
+            REFUSED(lxr_store_many(heap, base, first, long_registers, count), LXR_E_INDEX);
+        }
+    }
+}
+
+static void indices_of_several(lxr_heap *heap) {
+    static const uint32_t firsts[] = { 0, 1, 2, 3, 4, 1022, 1023, 1024, 65536, 1u << 31, LAST - 1, LAST };
+    for (size_t at = 0; at < sizeof firsts / sizeof *firsts; at++) {
+        fields_of_several(heap, 0, firsts[at], LXR_WORLD_REFS, 0);
+        fields_of_several(heap, 1, firsts[at], 2, 3);
+        fields_of_several(heap, 2, firsts[at], 0, 0);
+    }
+    fields_of_several(heap, 0, LXR_WORLD_REFS - 1, LXR_WORLD_REFS, 0);
+    fields_of_several(heap, 0, LXR_WORLD_REFS, LXR_WORLD_REFS, 0);
+    REFUSED(lxr_load_many(heap, 1, 0, long_registers, 1025), LXR_E_INDEX);
+    REFUSED(lxr_store_many(heap, 0, 0, long_registers, 65), LXR_E_INDEX);
+    REFUSED(lxr_get_many(heap, 1, 3, many, 0), LXR_OK);
+    REFUSED(lxr_put_many(heap, 1, 3, many, 0), LXR_OK);
+    REFUSED(lxr_load_many(heap, 1, 2, long_registers, 0), LXR_OK);
+    REFUSED(lxr_store_many(heap, 1, 2, long_registers, 0), LXR_OK);
+    REFUSED(lxr_get_many(heap, 2, 0, many, 0), LXR_OK);
+    REFUSED(lxr_store_many(heap, 2, 0, long_registers, 0), LXR_OK);
 }
 
 static void indices_of_bodies(lxr_heap *heap) {
@@ -295,6 +501,7 @@ static void indices_of_bodies(lxr_heap *heap) {
 static void whats(lxr_heap *heap) {
     static const uint32_t wrong[] = { 8, 9, 1u << 31, LAST };
     for (size_t at = 0; at < sizeof wrong / sizeof *wrong; at++) REFUSED(lxr_count(heap, wrong[at], &wide), LXR_E_WHAT);
+    operations_that_are_none(heap);
 }
 
 /* What the refused calls were made on is as it was. */
@@ -337,7 +544,9 @@ static void numbers(void) {
         sizes(&heap);
         nils(&heap);
         indices(&heap);
+        indices_of_several(&heap);
         indices_of_bodies(&heap);
+        stops(&heap);
         whats(&heap);
         is_as_made(&heap);
         IS(pauses % 2 ? lxr_collect(&heap) : lxr_pause(&heap), LXR_OK);
@@ -345,7 +554,108 @@ static void numbers(void) {
     IS(lxr_close(&heap), LXR_OK);
 }
 
+/* ---- Several at once ---- */
+
+/* Register 1 has an object of four references, to the objects in registers 2 to 4 and to nothing, and of three words. */
+static void makes_with(lxr_heap *heap) {
+    static const uint32_t sources[4] = { 2, 3, 4, 15 };
+    static const uint64_t data[3] = { 10, UINT64_MAX, 12 };
+    for (uint32_t at = 2; at <= 4; at++) {
+        const uint64_t number = at;
+        IS(lxr_new_with(heap, at, sources, 0, &number, 1), LXR_OK);
+    }
+    IS(lxr_new_with(heap, 1, sources, 4, data, 3), LXR_OK);
+    IS(lxr_shape(heap, 1, &refs, &words, &blocks), LXR_OK);
+    IS(refs, 4);
+    IS(words, 3);
+    IS(blocks, 0);
+    wipe();
+    IS(lxr_get_many(heap, 1, 0, many, 3), LXR_OK);
+    for (size_t at = 0; at < 8; at++) IS(many[at], at < 3 ? data[at] : UNTOUCHED);
+    IS(lxr_new_with(heap, 9, sources, 0, data, 0), LXR_OK);
+    IS(lxr_shape(heap, 9, &refs, &words, &blocks), LXR_OK);
+    IS(refs + words + blocks, 0);
+}
+
+/* A register holds the object whose word 0 is this number, or none where it is 0. */
+static void holds(lxr_heap *heap, uint32_t at, uint64_t number) {
+    IS(lxr_get(heap, at, 0, &wide), number ? LXR_OK : LXR_E_NIL);
+    if (number) IS(wide, number);
+}
+
+/* Registers are read and written in order; the base's own comes last. */
+static void loads_and_stores(lxr_heap *heap) {
+    static const uint32_t apart[4] = { 5, 6, 7, 8 }, one[4] = { 5, 5, 5, 5 }, back[4] = { 15, 2, 2, 3 }, last[3] = { 6, 5, 1 };
+    IS(lxr_load_many(heap, 1, 0, apart, 4), LXR_OK);
+    for (uint32_t at = 5; at <= 8; at++) holds(heap, at, at < 8 ? at - 3 : 0);
+    IS(lxr_load_many(heap, 1, 0, one, 3), LXR_OK);
+    holds(heap, 5, 4);
+    IS(lxr_store_many(heap, 1, 0, back, 4), LXR_OK);
+    IS(lxr_load_many(heap, 1, 0, apart, 4), LXR_OK);
+    for (uint32_t at = 5; at <= 8; at++) holds(heap, at, at == 5 ? 0 : at < 8 ? 2 : 3);
+    IS(lxr_store_many(heap, 1, 1, one, 2), LXR_OK);
+    IS(lxr_load_many(heap, 1, 1, last, 3), LXR_OK);
+    holds(heap, 6, 0);
+    holds(heap, 5, 0);
+    holds(heap, 1, 3);
+}
+
+/* A word of an object that is put in part leaves the others. */
+static void gets_and_puts(lxr_heap *heap) {
+    for (uint64_t at = 0; at < LXR_MOST_WORDS; at++) long_words[at] = at * at;
+    IS(lxr_new_with(heap, 10, long_registers, 1023, long_words, 1023), LXR_OK);
+    IS(lxr_put_many(heap, 10, 1020, long_words, 3), LXR_OK);
+    IS(lxr_put_many(heap, 10, 3, long_words, 1), LXR_OK);
+    for (size_t at = 0; at < LXR_MOST_WORDS; at++) long_words[at] = UNTOUCHED;
+    IS(lxr_get_many(heap, 10, 0, long_words, 1023), LXR_OK);
+    for (uint64_t at = 0; at < LXR_MOST_WORDS; at++) {
+        const uint64_t from = at == 3 ? 0 : at >= 1020 ? at - 1020 : at;
+        IS(long_words[at], from * from);
+    }
+}
+
+/* Each operation, as its call does it. */
+static void applies_each(lxr_heap *heap) {
+    lxr_operation all[] = {
+        { LXR_OP_NEW, 11, 2, 1, UNTOUCHED },   { LXR_OP_PUT, 11, 0, LAST, 77 },    { LXR_OP_STORE, 11, 1, 11, 5 },
+        { LXR_OP_LOAD, 12, 11, 1, 6 },         { LXR_OP_SAME, 11, 12, LAST, 7 },   { LXR_OP_GET, 12, 0, LAST, 8 },
+        { LXR_OP_MOVE, 13, 12, LAST, 9 },      { LXR_OP_NIL, 12, LAST, LAST, 10 }, { LXR_OP_IS_NIL, 12, LAST, LAST, 11 },
+        { LXR_OP_IS_NIL, 13, LAST, LAST, 12 }, { LXR_OP_SAME, 12, 13, LAST, 13 },
+    };
+    static const uint64_t told[] = { UNTOUCHED, 77, 5, 6, 1, 77, 9, 10, 1, 0, 0 };
+    const size_t count = sizeof all / sizeof *all;
+    IS(sizeof(lxr_operation), 24);
+    APPLIES(heap, all, count, LXR_OK, count);
+    for (size_t at = 0; at < count; at++) IS(all[at].word, told[at]);
+    holds(heap, 13, 77);
+    holds(heap, 12, 0);
+}
+
+static void several(void) {
+    lxr_heap heap = LXR_HEAP_INIT;
+    IS(open_heap(&heap, 8, 1), LXR_OK);
+    for (int pauses = 0; pauses < 4; pauses++) {
+        makes_with(&heap);
+        if (pauses & 1) IS(lxr_pause(&heap), LXR_OK);
+        loads_and_stores(&heap);
+        gets_and_puts(&heap);
+        if (pauses & 2) IS(lxr_collect(&heap), LXR_OK);
+        applies_each(&heap);
+    }
+    IS(lxr_close(&heap), LXR_OK);
+}
+
 /* ---- Full ---- */
+
+/* Where an object finds no room, what comes before it is done. Register 2 has the last of so many objects. */
+static void full_for_several(lxr_heap *heap, uint64_t kept) {
+    static const uint32_t sources[1] = { 2 };
+    lxr_operation operations[3] = { { LXR_OP_GET, 2, 0, 0, UNTOUCHED }, { LXR_OP_NEW, 1, 1, 30, 0 }, { LXR_OP_NIL, 2, 0, 0, 0 } };
+    REFUSED(lxr_new_with(heap, 1, sources, 1, long_words, 30), LXR_E_FULL);
+    REFUSED(lxr_new_with(heap, 1, sources, 0, long_words, 1023), LXR_E_FULL);
+    APPLIES(heap, operations, 3, LXR_E_FULL, 1);
+    IS(operations[0].word, kept);
+}
 
 /* A heap that is full says so as often as it is asked, keeps what it has, and has room again once a register lets go. */
 static void full(void) {
@@ -364,6 +674,7 @@ static void full(void) {
     for (int again = 0; again < 3; again++) REFUSED(lxr_new(&heap, 1, 1, 30), LXR_E_FULL);
     REFUSED(lxr_new(&heap, 1, 1023, 1023), LXR_E_FULL);
     REFUSED(lxr_large_new(&heap, 1, 1), LXR_E_FULL);
+    full_for_several(&heap, kept);
     for (; kept; kept--) {
         IS(lxr_get(&heap, 2, 0, &wide), LXR_OK);
         IS(wide, kept);
@@ -440,6 +751,59 @@ static void paces(void) {
     IS(lxr_close(&heap), LXR_OK);
 }
 
+/* The same by objects that are made with their fields, or by operations. */
+static void paces_of_several(void) {
+    static const uint32_t sources[3] = { 1, 0, 15 };
+    lxr_heap heap = LXR_HEAP_INIT;
+    IS(open_heap(&heap, 64, 4), LXR_OK);
+    IS(lxr_set_pace(&heap, 640), LXR_OK);
+    for (uint64_t news = 0; news < 101; news++) {
+        lxr_operation two[2] = { { LXR_OP_NEW, 1, 3, 4, 0 }, { LXR_OP_PUT, 1, 0, 0, news } };
+        IS(count_of(&heap, LXR_COUNT_PAUSES), news ? (news - 1) / 10 : 0);
+        if (news % 3) {
+            APPLIES(&heap, two, 2, LXR_OK, 2);
+        } else {
+            IS(lxr_new_with(&heap, 2, sources, 3, long_words, 4), LXR_OK);
+        }
+    }
+    IS(count_of(&heap, LXR_COUNT_PAUSES), 10);
+    IS(lxr_close(&heap), LXR_OK);
+}
+
+/* The pauses that a store of so many references makes, of the object in register `base` from `first` on. */
+static uint64_t pauses_by_store(lxr_heap *heap, uint32_t base, uint32_t first, size_t count, lxr_code code) {
+    uint64_t before = count_of(heap, LXR_COUNT_PAUSES);
+    IS(lxr_store_many(heap, base, first, long_registers, count), code);
+    return count_of(heap, LXR_COUNT_PAUSES) - before;
+}
+
+/* A pause comes where what is recorded doesn't fit into the log of 1,024, and before all of it; a store that is refused makes none. */
+static void logs(void) {
+    lxr_heap heap = LXR_HEAP_INIT;
+    IS(open_heap(&heap, 16, 1), LXR_OK);
+    IS(lxr_new(&heap, 1, 1023, 0), LXR_OK);
+    IS(lxr_new(&heap, 2, 1023, 0), LXR_OK);
+    IS(lxr_new(&heap, 3, 0, 1), LXR_OK);
+    IS(pauses_by_store(&heap, 1, 0, 1023, LXR_OK) + pauses_by_store(&heap, 2, 0, 1023, LXR_OK), 0); /* new objects record nothing */
+    IS(lxr_pause(&heap), LXR_OK);
+    IS(pauses_by_store(&heap, 1, 0, 1023, LXR_OK), 0);
+    IS(pauses_by_store(&heap, 2, 0, 1, LXR_OK), 0); /* the log is full */
+    IS(pauses_by_store(&heap, 1, 0, 1023, LXR_OK), 0);
+    IS(pauses_by_store(&heap, 2, 1, 1023, LXR_E_INDEX) + pauses_by_store(&heap, 15, 1, 2, LXR_E_NIL), 0);
+    IS(pauses_by_store(&heap, 2, 1, 0, LXR_OK), 0);
+    IS(pauses_by_store(&heap, 2, 0, 2, LXR_OK), 1); /* and has two records then */
+    IS(pauses_by_store(&heap, 1, 0, 1022, LXR_OK), 0);
+    IS(pauses_by_store(&heap, 2, 0, 2, LXR_OK), 0);
+    IS(pauses_by_store(&heap, 1, 1021, 2, LXR_OK), 1);
+    IS(pauses_by_store(&heap, 2, 0, 1023, LXR_OK), 1); /* two and 1,023 don't fit, and none of them is recorded before the pause */
+    IS(pauses_by_store(&heap, 1, 0, 1, LXR_OK), 0);
+    IS(lxr_store(&heap, 1, 1, 3), LXR_OK);
+    IS(pauses_by_store(&heap, 1, 0, 2, LXR_OK), 0);
+    IS(lxr_collect(&heap), LXR_OK);
+    IS(count_of(&heap, LXR_COUNT_LIVE), 3);
+    IS(lxr_close(&heap), LXR_OK);
+}
+
 /* A newcomer's heap makes plain pauses and no collecting one, however much garbage there is. */
 static void pace_of_a_newcomer(void) {
     const lxr_settings settings = LXR_SETTINGS(8, 1);
@@ -453,12 +817,16 @@ static void pace_of_a_newcomer(void) {
 }
 
 int main(void) {
+    for (size_t at = 0; at < sizeof long_registers / sizeof *long_registers; at++) long_registers[at] = 3;
     IS(lxr_version(), LXR_VERSION);
     handles();
     paces();
+    paces_of_several();
+    logs();
     pace_of_a_newcomer();
     two_heaps();
     numbers();
+    several();
     full();
     full_of_bodies();
     printf("hostile: %lu checks\n", checks);

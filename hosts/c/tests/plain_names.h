@@ -13,6 +13,12 @@
 #define lxr_nil         plain_nil
 #define lxr_is_nil      plain_is_nil
 #define lxr_shape       plain_shape
+#define lxr_new_with    plain_new_with
+#define lxr_get_many    plain_get_many
+#define lxr_put_many    plain_put_many
+#define lxr_load_many   plain_load_many
+#define lxr_store_many  plain_store_many
+#define lxr_apply       plain_apply
 #define lxr_large_new   plain_large_new
 #define lxr_large_get   plain_large_get
 #define lxr_large_put   plain_large_put

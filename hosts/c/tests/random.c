@@ -18,8 +18,10 @@
 #include <string.h>
 #include <time.h>
 
-#define CALLS  20000u
-#define BUFFER 64u
+#define CALLS      20000u
+#define BUFFER     64u
+#define LONGEST    1026u
+#define OPERATIONS 24u
 
 static struct { uint64_t rounds, calls, full, pauses; } sums;
 
@@ -234,6 +236,138 @@ static void call_set_pace(void) {
     agree("set_pace", calls_lxr.set_pace(&now.lxr, bytes), calls_plain.set_pace(&now.plain, bytes));
 }
 
+/* ---- Several at once ---- */
+
+/* How many: mostly few, now and then as many as a long object has, or more. */
+static size_t some_count(void) { return one_in(12) ? below(LONGEST) : below(8); }
+
+/* How many fields of an object, which are mostly there. */
+static size_t some_part(uint32_t base, uint32_t first, enum field sort) {
+    uint32_t end = fields_of(base, sort);
+    if (one_in(30) || first > end) return some_count();
+    return one_in(3) ? end - first : below(end - first + 1);
+}
+
+/* The first of several fields: sometimes of them all, so that long ones come. */
+static uint32_t some_first(uint32_t base, enum field sort) { return one_in(3) ? 0 : some_index(base, sort); }
+
+/* So many registers, which seldom have `but` among them. */
+static void draw_registers(uint32_t *registers, size_t count, uint32_t but) {
+    bool wild_ones = one_in(20);
+    for (size_t at = 0; at < count; at++) {
+        registers[at] = wild_ones && one_in(20) ? wild() : below(LXR_REGISTERS);
+        if (registers[at] == but && !one_in(100)) registers[at] = (but + 1) % LXR_REGISTERS;
+    }
+}
+
+static void draw_words(uint64_t *words, size_t count) {
+    for (size_t at = 0; at < count; at++) words[at] = some_word();
+}
+
+static void call_new_with(void) {
+    static uint32_t sources[LONGEST];
+    static uint64_t data[LONGEST];
+    uint32_t dest = some_dest();
+    size_t refs = some_count(), words = some_count();
+    draw_registers(sources, refs, dest);
+    draw_words(data, words);
+    lxr_code code = calls_lxr.new_with(&now.lxr, dest, sources, refs, data, words);
+    if (code == LXR_E_FULL)
+        may_be_full((uint32_t)refs, (uint32_t)words, 0);
+    else
+        agree("new_with", code, calls_plain.new_with(&now.plain, dest, sources, refs, data, words));
+}
+
+static void call_get_many(void) {
+    uint32_t base = some_base(WORDS), first = some_first(base, WORDS);
+    size_t count = some_part(base, first, WORDS);
+    uint64_t on_lxr[LONGEST] = { 0 }, on_plain[LONGEST] = { 0 };
+    agree("get_many", calls_lxr.get_many(&now.lxr, base, first, on_lxr, count),
+          calls_plain.get_many(&now.plain, base, first, on_plain, count));
+    if (memcmp(on_lxr, on_plain, sizeof on_lxr) != 0) differ("get_many: other words");
+}
+
+static void call_put_many(void) {
+    uint32_t base = some_base(WORDS), first = some_first(base, WORDS);
+    size_t count = some_part(base, first, WORDS);
+    uint64_t words[LONGEST];
+    draw_words(words, count);
+    agree("put_many", calls_lxr.put_many(&now.lxr, base, first, words, count), calls_plain.put_many(&now.plain, base, first, words, count));
+}
+
+/* Register 0 is seldom among those that are loaded. The base is sometimes the last. */
+static void call_load_many(void) {
+    uint32_t base = some_base(REFS), first = some_first(base, REFS), registers[LONGEST];
+    size_t count = some_part(base, first, REFS);
+    draw_registers(registers, count, base);
+    for (size_t at = 0; at < count; at++)
+        if (registers[at] == 0 && !one_in(50)) registers[at] = base == 1 ? 2 : 1;
+    if (count && one_in(10)) registers[count - 1] = base;
+    agree("load_many", calls_lxr.load_many(&now.lxr, base, first, registers, count),
+          calls_plain.load_many(&now.plain, base, first, registers, count));
+}
+
+static void call_store_many(void) {
+    uint32_t base = some_base(REFS), first = some_first(base, REFS), registers[LONGEST];
+    size_t count = some_part(base, first, REFS);
+    draw_registers(registers, count, LXR_REGISTERS);
+    agree("store_many", calls_lxr.store_many(&now.lxr, base, first, registers, count),
+          calls_plain.store_many(&now.plain, base, first, registers, count));
+}
+
+/* Keeps two objects of a thousand references and stores to all of them: the second time the log is full before its end. */
+static void call_long_stores(void) {
+    uint32_t left = 1 + below(LXR_REGISTERS - 1), right = 1 + below(LXR_REGISTERS - 1), registers[LONGEST];
+    draw_registers(registers, LXR_MOST_REFS, LXR_REGISTERS);
+    for (int news = 0; news < 2; news++) {
+        lxr_code code = calls_lxr.new(&now.lxr, news ? left : right, LXR_MOST_REFS, 1);
+        if (code == LXR_E_FULL) {
+            may_be_full(LXR_MOST_REFS, 1, 0);
+            return;
+        }
+        agree("new", code, calls_plain.new(&now.plain, news ? left : right, LXR_MOST_REFS, 1));
+    }
+    call_pause();
+    for (int stores = 0; stores < 3; stores++) {
+        uint32_t base = stores & 1 ? left : right, count = 1 + below(LXR_MOST_REFS);
+        agree("store_many", calls_lxr.store_many(&now.lxr, base, LXR_MOST_REFS - count, registers, count),
+              calls_plain.store_many(&now.plain, base, LXR_MOST_REFS - count, registers, count));
+    }
+}
+
+/* An operation by the shares of the calls that it is one of. Its base is chosen by what registers hold before the first. */
+static lxr_operation some_operation(void) {
+    lxr_operation it = { one_in(400) ? wild() : below(LXR_OP_IS_NIL + 1), wild(), wild(), wild(), some_word() };
+    it.a = some_register();
+    switch (it.op) {
+    case LXR_OP_NEW: it.a = some_dest(), it.b = one_in(300) ? wild() : below(6), it.c = below(6); break;
+    case LXR_OP_LOAD: it.a = some_dest(), it.b = some_base(REFS), it.c = some_index(it.b, REFS); break;
+    case LXR_OP_STORE: it.a = some_base(REFS), it.b = some_index(it.a, REFS), it.c = some_register(); break;
+    case LXR_OP_GET:
+    case LXR_OP_PUT: it.a = some_base(WORDS), it.b = some_index(it.a, WORDS); break;
+    case LXR_OP_SAME: it.b = some_register(); break;
+    case LXR_OP_MOVE: it.a = some_dest(), it.b = some_register(); break;
+    case LXR_OP_NIL: it.a = some_dest(); break;
+    default: break;
+    }
+    return it;
+}
+
+/* Where the archive says that it is full, the other heap does what comes before that. */
+static void call_apply(void) {
+    lxr_operation on_lxr[OPERATIONS], on_plain[OPERATIONS];
+    size_t count = below(OPERATIONS + 1), done_on_lxr = 99, done_on_plain = 99;
+    for (size_t at = 0; at < count; at++) on_plain[at] = on_lxr[at] = some_operation();
+    lxr_code code = calls_lxr.apply(&now.lxr, on_lxr, count, &done_on_lxr);
+    lxr_code wanted = calls_plain.apply(&now.plain, on_plain, code == LXR_E_FULL ? done_on_lxr : count, &done_on_plain);
+    agree("the operations that are done", done_on_lxr, done_on_plain);
+    agree("apply", code == LXR_E_FULL ? LXR_OK : code, wanted);
+    if (code == LXR_E_FULL) may_be_full(on_lxr[done_on_lxr].b, on_lxr[done_on_lxr].c, 0);
+    for (size_t at = 0; at < count; at++) agree("the word of an operation", on_lxr[at].word, on_plain[at].word);
+}
+
+/* ---- Rounds ---- */
+
 /* Whether all registers hold the like on both heaps. */
 static void agree_on_registers(void) {
     for (uint32_t at = 0; at < LXR_REGISTERS; at++) {
@@ -253,9 +387,11 @@ static const struct {
     void (*call)(void);
     uint32_t share;
 } kinds[] = {
-    { call_new, 200 },   { call_load, 200 }, { call_store, 250 }, { call_get, 80 },     { call_put, 80 },          { call_move, 40 },
-    { call_nil, 60 },    { call_same, 20 },  { call_big, 20 },    { call_bget, 20 },    { call_bput, 20 },         { call_bread, 10 },
-    { call_bwrite, 10 }, { call_pause, 4 },  { call_collect, 2 }, { call_set_pace, 1 }, { agree_on_registers, 2 },
+    { call_new, 200 },     { call_load, 200 },     { call_store, 250 },     { call_get, 80 },          { call_put, 80 },
+    { call_move, 40 },     { call_nil, 60 },       { call_same, 20 },       { call_big, 20 },          { call_bget, 20 },
+    { call_bput, 20 },     { call_bread, 10 },     { call_bwrite, 10 },     { call_new_with, 60 },     { call_get_many, 30 },
+    { call_put_many, 30 }, { call_load_many, 30 }, { call_store_many, 40 }, { call_apply, 30 },        { call_long_stores, 1 },
+    { call_pause, 4 },     { call_collect, 2 },    { call_set_pace, 1 },    { agree_on_registers, 2 },
 };
 
 static void make_call(void) {

@@ -37,6 +37,30 @@ static void is_untouched(int line) {
 /* A refused call. */
 #define REFUSED(call, code) (check(call, code, #call, __LINE__), is_untouched(__LINE__))
 
+/* Operations: the call's code, and how many are done, which is told at any code. */
+#define APPLIES(mutator, operations, count, code, are_done) \
+    (done = UNTOUCHED, check(lxr_mutator_apply(mutator, operations, count, &done), code, "lxr_mutator_apply", __LINE__), \
+     check(done, are_done, "the operations that are done", __LINE__))
+
+static size_t done;
+
+/* Several operations at once. */
+static void refuse_several(lxr_mutator *mutator, lxr_code code) {
+    const uint32_t some[2] = { 2, 3 };
+    const uint64_t data[2] = { 5, 6 };
+    lxr_operation operations[2] = { { LXR_OP_GET, 0, 0, 0, UNTOUCHED }, { LAST, LAST, LAST, LAST, UNTOUCHED } };
+    REFUSED(lxr_mutator_new_with(mutator, 1, some, 2, data, 2), code);
+    REFUSED(lxr_mutator_get_many(mutator, 1, 0, &wide, 1), code);
+    REFUSED(lxr_mutator_put_many(mutator, 1, 0, data, 2), code);
+    REFUSED(lxr_mutator_load_many(mutator, 1, 0, some, 2), code);
+    REFUSED(lxr_mutator_store_many(mutator, 1, 0, some, 2), code);
+    REFUSED(lxr_mutator_get_many(mutator, LAST, LAST, &wide, 0), code);
+    REFUSED(lxr_mutator_load_many(mutator, LAST, LAST, some, 0), code);
+    APPLIES(mutator, operations, 2, code, 0);
+    APPLIES(mutator, operations, 0, code, 0);
+    IS(operations[0].word, UNTOUCHED);
+}
+
 /* Each operation of a mutator, with numbers that would do. */
 static void refuse_all(lxr_mutator *mutator, lxr_code code) {
     REFUSED(lxr_mutator_new(mutator, 1, 1, 1), code);
@@ -49,6 +73,7 @@ static void refuse_all(lxr_mutator *mutator, lxr_code code) {
     REFUSED(lxr_mutator_same(mutator, 1, 1, &narrow), code);
     REFUSED(lxr_mutator_move(mutator, 1, 1), code);
     REFUSED(lxr_mutator_nil(mutator, 1), code);
+    refuse_several(mutator, code);
     REFUSED(lxr_mutator_pause(mutator), code);
     REFUSED(lxr_mutator_collect(mutator), code);
     REFUSED(lxr_mutator_poll(mutator), code);
@@ -201,6 +226,168 @@ static void try_fields(lxr_mutator *mutator) {
     wide = UNTOUCHED;
 }
 
+/* ---- Several at once ---- */
+
+/* A register that isn't there, in each place of several. */
+static void try_registers_of_several(lxr_mutator *mutator, uint32_t r) {
+    const uint32_t good[3] = { 3, 4, 5 };
+    const uint64_t data[1] = { 5 };
+    REFUSED(lxr_mutator_new_with(mutator, r, good, 3, data, 1), LXR_E_REGISTER);
+    REFUSED(lxr_mutator_get_many(mutator, r, 0, &wide, 0), LXR_E_REGISTER);
+    REFUSED(lxr_mutator_get_many(mutator, r, 0, &wide, 1), LXR_E_REGISTER);
+    REFUSED(lxr_mutator_put_many(mutator, r, LAST, data, 1), LXR_E_REGISTER);
+    REFUSED(lxr_mutator_load_many(mutator, r, 0, good, 3), LXR_E_REGISTER);
+    REFUSED(lxr_mutator_store_many(mutator, r, 0, good, 0), LXR_E_REGISTER);
+    for (size_t at = 0; at < 3; at++) {
+        uint32_t some[3] = { 3, 4, 5 };
+        some[at] = r;
+        REFUSED(lxr_mutator_new_with(mutator, 1, some, 3, data, 1024), LXR_E_REGISTER);
+        REFUSED(lxr_mutator_load_many(mutator, 0, 0, some, 3), LXR_E_REGISTER);
+        REFUSED(lxr_mutator_load_many(mutator, 15, LAST, some, 3), LXR_E_REGISTER);
+        REFUSED(lxr_mutator_store_many(mutator, 0, 0, some, 3), LXR_E_REGISTER);
+        REFUSED(lxr_mutator_store_many(mutator, 15, LAST, some, 3), LXR_E_REGISTER);
+    }
+}
+
+/* Registers that are written to: not 0, and not one that is still read. */
+static void try_registers_among_others(lxr_mutator *mutator) {
+    const uint32_t good[3] = { 3, 4, 5 };
+    const uint64_t data[1] = { 5 };
+    REFUSED(lxr_mutator_new_with(mutator, 0, good, 0, data, 1), LXR_E_REGISTER);
+    for (size_t at = 0; at < 3; at++) {
+        uint32_t some[3] = { 3, 4, 5 };
+        some[at] = 1;
+        REFUSED(lxr_mutator_new_with(mutator, 1, some, 3, data, 1), LXR_E_REGISTER);
+        REFUSED(lxr_mutator_load_many(mutator, 1, 0, some, 3), at < 2 ? LXR_E_REGISTER : LXR_E_NIL);
+        some[at] = 0;
+        REFUSED(lxr_mutator_load_many(mutator, 1, 0, some, 3), LXR_E_REGISTER);
+        REFUSED(lxr_mutator_store_many(mutator, 1, 0, some, 3), LXR_E_NIL);
+    }
+}
+
+static void try_sizes_of_several(lxr_mutator *mutator) {
+    static uint32_t sources[1024];
+    static uint64_t data[1024];
+    REFUSED(lxr_mutator_new_with(mutator, 1, sources, 1024, data, 0), LXR_E_SIZE);
+    REFUSED(lxr_mutator_new_with(mutator, 1, sources, 0, data, 1024), LXR_E_SIZE);
+    REFUSED(lxr_mutator_new_with(mutator, 1, sources, 0, data, SIZE_MAX), LXR_E_SIZE);
+    REFUSED(lxr_mutator_new_with(mutator, 1, sources, 0, data, (SIZE_MAX >> 32) + 2), LXR_E_SIZE);
+    REFUSED(lxr_mutator_new_with(mutator, 0, sources, 0, data, 1024), LXR_E_REGISTER);
+    IS(lxr_mutator_new_with(mutator, 1, sources, 1023, data, 1023), LXR_OK);
+    REFUSED(lxr_mutator_put_many(mutator, 1, 0, data, 1024), LXR_E_INDEX);
+    REFUSED(lxr_mutator_store_many(mutator, 1, 0, sources, 1024), LXR_E_INDEX);
+    REFUSED(lxr_mutator_get_many(mutator, 1, 1023, &wide, SIZE_MAX), LXR_E_INDEX);
+    REFUSED(lxr_mutator_put_many(mutator, 1, LAST, data, SIZE_MAX), LXR_E_INDEX);
+    IS(lxr_mutator_nil(mutator, 1), LXR_OK);
+}
+
+/* An operation that is refused for its numbers, and one that nothing of is done before it. */
+static void refuse_operation(lxr_mutator *mutator, lxr_operation it, lxr_code code, int line) {
+    lxr_operation operations[2] = { { LXR_OP_NEW, 1, 0, 0, UNTOUCHED }, it };
+    done = UNTOUCHED;
+    check(lxr_mutator_apply(mutator, operations, 2, &done), code, "lxr_mutator_apply", line);
+    check(done, 0, "the operations that are done", line);
+    check(operations[1].word, it.word, "the word of a refused operation", line);
+    check(lxr_mutator_get(mutator, 1, 0, &wide), LXR_E_NIL, "lxr_mutator_get", line);
+}
+
+#define REFUSES(mutator, op, a, b, c, word, code) refuse_operation(mutator, (lxr_operation){ op, a, b, c, word }, code, __LINE__)
+
+static void try_registers_of_operations(lxr_mutator *mutator, uint32_t r) {
+    REFUSES(mutator, LXR_OP_NEW, r, LAST, LAST, 0, LXR_E_REGISTER);
+    REFUSES(mutator, LXR_OP_LOAD, r, 0, 0, 0, LXR_E_REGISTER);
+    REFUSES(mutator, LXR_OP_LOAD, 1, r, 0, 0, LXR_E_REGISTER);
+    REFUSES(mutator, LXR_OP_STORE, r, 0, 1, 0, LXR_E_REGISTER);
+    REFUSES(mutator, LXR_OP_STORE, 0, 0, r, 0, LXR_E_REGISTER);
+    REFUSES(mutator, LXR_OP_GET, r, 0, 0, 0, LXR_E_REGISTER);
+    REFUSES(mutator, LXR_OP_PUT, r, 0, 0, 0, LXR_E_REGISTER);
+    REFUSES(mutator, LXR_OP_SAME, r, 1, 0, 0, LXR_E_REGISTER);
+    REFUSES(mutator, LXR_OP_SAME, 1, r, 0, 0, LXR_E_REGISTER);
+    REFUSES(mutator, LXR_OP_MOVE, r, 1, 0, 0, LXR_E_REGISTER);
+    REFUSES(mutator, LXR_OP_MOVE, 1, r, 0, 0, LXR_E_REGISTER);
+    REFUSES(mutator, LXR_OP_NIL, r, 0, 0, 0, LXR_E_REGISTER);
+    REFUSES(mutator, LXR_OP_IS_NIL, r, 0, 0, 0, LXR_E_REGISTER);
+    REFUSES(mutator, LXR_OP_SWAP, r, 0, 0, 0, LXR_E_REGISTER);
+    REFUSES(mutator, LXR_OP_SWAP, 1, r, 0, 0, LXR_E_REGISTER);
+    REFUSES(mutator, LXR_OP_SWAP, 1, 0, 0, r, LXR_E_REGISTER);
+    REFUSES(mutator, LXR_OP_SWAP, 1, 0, 0, (UINT64_C(1) << 32) + r, LXR_E_REGISTER);
+    REFUSES(mutator, LXR_OP_ADD, r, 0, 0, 1, LXR_E_REGISTER);
+    REFUSES(mutator, 11 + r, r, r, r, 0, LXR_E_WHAT);
+}
+
+/* Register 0 keeps the world; sizes; and operations that there aren't. */
+static void try_operations(lxr_mutator *mutator) {
+    const uint32_t writes[] = { LXR_OP_NEW, LXR_OP_LOAD, LXR_OP_MOVE, LXR_OP_NIL, LXR_OP_SWAP };
+    for (size_t at = 0; at < sizeof writes / sizeof writes[0]; at++) REFUSES(mutator, writes[at], 0, 0, 0, 0, LXR_E_REGISTER);
+    REFUSES(mutator, LXR_OP_SWAP, 1, 0, 0, UINT64_C(1) << 32, LXR_E_REGISTER);
+    REFUSES(mutator, LXR_OP_NEW, 1, 1024, 0, 0, LXR_E_SIZE);
+    REFUSES(mutator, LXR_OP_NEW, 1, 0, 1024, 0, LXR_E_SIZE);
+    REFUSES(mutator, 11, 1, 1, 1, 0, LXR_E_WHAT);
+    REFUSES(mutator, LAST, 1, 1, 1, 0, LXR_E_WHAT);
+    REFUSES(mutator, UINT32_C(1) << 31, 0, LAST, LAST, LAST, LXR_E_WHAT);
+}
+
+/* Each operation as its call does it, and the one that stops them. */
+static void apply_each(lxr_mutator *mutator) {
+    lxr_operation all[] = {
+        { LXR_OP_NEW, 1, 2, 2, UNTOUCHED },  { LXR_OP_PUT, 1, 1, LAST, 70 }, { LXR_OP_ADD, 1, 1, LAST, 7 },
+        { LXR_OP_STORE, 1, 0, 1, 1 },        { LXR_OP_LOAD, 2, 1, 0, 2 },    { LXR_OP_SWAP, 3, 1, 1, 2 },
+        { LXR_OP_IS_NIL, 3, LAST, LAST, 4 }, { LXR_OP_MOVE, 3, 2, LAST, 5 }, { LXR_OP_NIL, 2, LAST, LAST, 6 },
+        { LXR_OP_SAME, 1, 3, LAST, 7 },      { LXR_OP_SAME, 2, 3, LAST, 8 }, { LXR_OP_IS_NIL, 0, LAST, LAST, 9 },
+        { LXR_OP_GET, 3, 1, LAST, 10 },      { LXR_OP_GET, 3, 2, LAST, 11 }, { LXR_OP_NIL, 1, 0, 0, 12 },
+    };
+    const uint64_t told[] = { UNTOUCHED, 70, 70, 1, 2, 2, 1, 5, 6, 1, 0, 0, 77, 11, 12 };
+    APPLIES(mutator, all, 15, LXR_E_INDEX, 13);
+    for (size_t at = 0; at < 15; at++) IS(all[at].word, told[at]);
+    APPLIES(mutator, all + 14, 1, LXR_OK, 1);
+    APPLIES(mutator, all, 0, LXR_OK, 0);
+    all[0] = (lxr_operation){ LXR_OP_ADD, 1, 0, 0, 5 };
+    APPLIES(mutator, all, 2, LXR_E_NIL, 0);
+    IS(all[0].word, 5);
+    IS(lxr_mutator_nil(mutator, 3), LXR_OK);
+}
+
+/* What is done before the field that isn't there stays done. */
+static void try_parts(lxr_mutator *mutator) {
+    const uint32_t some[3] = { 0, 1, 15 }, loaded[3] = { 3, 4, 2 };
+    const uint64_t data[3] = { 5, 6, 7 };
+    uint64_t found[3] = { 0, 0, 9 };
+    IS(lxr_mutator_new_with(mutator, 1, some, 1, data, 1), LXR_OK);
+    IS(lxr_mutator_new_with(mutator, 2, some, 2, data, 2), LXR_OK);
+    IS(lxr_mutator_get_many(mutator, 2, 0, found, 3), LXR_E_INDEX);
+    IS(found[0] * 100 + found[1] * 10 + found[2], 569);
+    IS(lxr_mutator_put_many(mutator, 2, 1, data, 2), LXR_E_INDEX);
+    IS(lxr_mutator_get_many(mutator, 2, 0, found, 2), LXR_OK);
+    IS(found[0] * 10 + found[1], 55);
+    IS(lxr_mutator_store_many(mutator, 2, 1, some, 2), LXR_E_INDEX);
+    IS(lxr_mutator_load_many(mutator, 2, 0, loaded, 3), LXR_E_INDEX);
+    IS(lxr_mutator_same(mutator, 3, 4, &narrow), LXR_OK);
+    IS(narrow, 1);
+    IS(lxr_mutator_load_many(mutator, 2, 0, loaded + 1, 2), LXR_OK);
+    IS(lxr_mutator_same(mutator, 2, 0, &narrow), LXR_OK);
+    IS(narrow, 1);
+    narrow = UNTOUCHED;
+}
+
+static void clear(lxr_mutator *mutator) {
+    for (uint32_t at = 1; at < LXR_REGISTERS; at++) IS(lxr_mutator_nil(mutator, at), LXR_OK);
+}
+
+static void try_several(lxr_mutator *mutator) {
+    const uint32_t bad[] = { 16, 17, 255, 256, 65536, LAST - 11 };
+    clear(mutator);
+    for (size_t at = 0; at < sizeof bad / sizeof bad[0]; at++) {
+        try_registers_of_several(mutator, bad[at]);
+        try_registers_of_operations(mutator, bad[at]);
+    }
+    try_registers_among_others(mutator);
+    try_sizes_of_several(mutator);
+    try_operations(mutator);
+    apply_each(mutator);
+    try_parts(mutator);
+    clear(mutator);
+}
+
 static void try_counts(lxr_shared_heap *heap) {
     for (uint32_t what = 0; what < 20; what++) {
         uint32_t known = what <= LXR_COUNT_SWEPT || (what >= LXR_COUNT_COLLECTING && what <= LXR_COUNT_LAST_KIND);
@@ -281,6 +468,7 @@ int main(int words, char **unused) {
     try_numbers(mutator);
     try_world(mutator);
     try_fields(mutator);
+    try_several(mutator);
     try_counts(heap);
     try_rest(heap, mutator);
     try_pauses(heap, mutator);

@@ -32,7 +32,7 @@ enum { RENEWS = 1 };
 enum { RENEWS = 0 };
 #endif
 
-enum { COUNTER_WORDS = 4, MOST_FIELDS = 6, OPERATIONS = 4000 };
+enum { COUNTER_WORDS = 4, MOST_FIELDS = 6, OPERATIONS = 4000, SEVERAL = 8 };
 
 /* An object of the graph beside the heap. */
 struct node {
@@ -215,6 +215,160 @@ static void play_registers(struct player *player) {
     }
 }
 
+/* ---- Several at once ---- */
+
+/* Draws registers of the thread's own; whether they are all there. */
+static bool draw_registers(struct player *player, uint32_t *registers, size_t count) {
+    bool there = true;
+    for (size_t at = 0; at < count; at++) {
+        registers[at] = own(player);
+        there = there && registers[at] < LXR_REGISTERS;
+    }
+    return there;
+}
+
+static bool is_among(const uint32_t *registers, size_t count, uint32_t it) {
+    bool found = false;
+    for (size_t at = 0; at < count; at++) found = found || registers[at] == it;
+    return found;
+}
+
+static void play_new_with(struct player *player) {
+    uint32_t dest = own(player), sources[MOST_FIELDS];
+    size_t refs = below(player, MOST_FIELDS + 1), words = below(player, MOST_FIELDS + 1);
+    uint64_t data[MOST_FIELDS] = { draw(&player->dice), 1, 2, 3, 4, draw(&player->dice) };
+    bool there = draw_registers(player, sources, refs) && dest < LXR_REGISTERS && !is_among(sources, refs, dest);
+    lxr_code code = lxr_mutator_new_with(player->mutator, dest, sources, refs, data, words);
+    if (code == LXR_E_FULL && there) {
+        let_go(player);
+        return;
+    }
+    agree(player, "new_with", code, there ? LXR_OK : LXR_E_REGISTER);
+    if (!there) return;
+    struct node *made = make_node(player, (uint32_t)refs, (uint32_t)words);
+    for (size_t at = 0; at < refs; at++) made->ref[at] = player->registers[sources[at]];
+    memcpy(made->word, data, words * sizeof *data);
+    player->registers[dest] = made;
+}
+
+/* Of several words those before the first that isn't there are read or written. */
+static void play_words(struct player *player) {
+    uint32_t base = own(player), first = below(player, MOST_FIELDS);
+    size_t count = below(player, MOST_FIELDS + 1);
+    uint64_t found[MOST_FIELDS] = { 0 }, wanted[MOST_FIELDS] = { 0 };
+    bool puts = one_in(player, 2);
+    lxr_code expected = base < LXR_REGISTERS ? LXR_OK : LXR_E_REGISTER;
+    for (size_t at = 0; at < count; at++) wanted[at] = found[at] = draw(&player->dice);
+    lxr_code code = puts ? lxr_mutator_put_many(player->mutator, base, first, wanted, count)
+                         : lxr_mutator_get_many(player->mutator, base, first, found, count);
+    for (uint32_t at = 0; at < count && expected == LXR_OK; at++) {
+        expected = field_code(player, base, first + at, true);
+        if (expected != LXR_OK) break;
+        uint64_t *there = &player->registers[base]->word[first + at];
+        if (puts) *there = wanted[at];
+        wanted[at] = *there;
+    }
+    agree(player, "get_many or put_many", code, expected);
+    if (!puts && memcmp(found, wanted, sizeof found) != 0) differ(player, "get_many: other words");
+}
+
+static void play_refs(struct player *player) {
+    uint32_t base = own(player), first = below(player, MOST_FIELDS), registers[MOST_FIELDS];
+    size_t count = below(player, MOST_FIELDS + 1);
+    bool loads = one_in(player, 2), there = draw_registers(player, registers, count) && base < LXR_REGISTERS;
+    lxr_code code = loads ? lxr_mutator_load_many(player->mutator, base, first, registers, count)
+                          : lxr_mutator_store_many(player->mutator, base, first, registers, count);
+    if (loads && count && is_among(registers, count - 1, base)) there = false;
+    lxr_code expected = there ? LXR_OK : LXR_E_REGISTER;
+    for (uint32_t at = 0; at < count && expected == LXR_OK; at++) {
+        expected = field_code(player, base, first + at, false);
+        if (expected != LXR_OK) break;
+        struct node **ref = &player->registers[base]->ref[first + at], **held = &player->registers[registers[at]];
+        *(loads ? held : ref) = *(loads ? ref : held);
+    }
+    agree(player, "load_many or store_many", code, expected);
+}
+
+/* An operation on the thread's own registers. */
+static lxr_operation draw_operation(struct player *player) {
+    lxr_operation it = { below(player, LXR_OP_ADD + 1), own(player), below(player, MOST_FIELDS), below(player, MOST_FIELDS),
+                         draw(&player->dice) };
+    switch (it.op) {
+    case LXR_OP_SWAP: it.word = own(player); /* fallthrough */
+    case LXR_OP_LOAD:
+    case LXR_OP_SAME:
+    case LXR_OP_MOVE: it.b = own(player); break;
+    case LXR_OP_STORE: it.c = own(player); break;
+    default: break;
+    }
+    return it;
+}
+
+/* Whether all registers of an operation are there. */
+static bool is_there(const lxr_operation *it) {
+    if (it->a >= LXR_REGISTERS || it->b >= LXR_REGISTERS || it->c >= LXR_REGISTERS) return false;
+    return it->op != LXR_OP_SWAP || it->word < LXR_REGISTERS;
+}
+
+/* Does an operation on the graph: its code, and what it tells. */
+static lxr_code do_on_graph(struct player *player, lxr_operation *it) {
+    struct node **of = player->registers, *old = NULL;
+    bool words = it->op == LXR_OP_GET || it->op == LXR_OP_PUT || it->op == LXR_OP_ADD;
+    bool swaps = it->op == LXR_OP_SWAP, loads = it->op == LXR_OP_LOAD || swaps;
+    if (words || loads || it->op == LXR_OP_STORE) {
+        lxr_code code = loads ? field_code(player, it->b, it->c, false) : field_code(player, it->a, it->b, words);
+        if (code != LXR_OK) return code;
+    }
+    uint64_t *word = words ? &of[it->a]->word[it->b] : NULL, before = words ? *word : 0;
+    switch (it->op) {
+    case LXR_OP_NEW: of[it->a] = make_node(player, it->b, it->c); break;
+    case LXR_OP_STORE: of[it->a]->ref[it->b] = of[it->c]; break;
+    case LXR_OP_SWAP:
+    case LXR_OP_LOAD:
+        old = of[it->b]->ref[it->c];
+        if (swaps) of[it->b]->ref[it->c] = of[it->word];
+        of[it->a] = old;
+        break;
+    case LXR_OP_PUT: *word = it->word; break;
+    case LXR_OP_ADD: *word += it->word; /* fallthrough */
+    case LXR_OP_GET: it->word = before; break;
+    case LXR_OP_SAME: it->word = of[it->a] == of[it->b]; break;
+    case LXR_OP_MOVE: of[it->a] = of[it->b]; break;
+    case LXR_OP_NIL: of[it->a] = NULL; break;
+    default: it->word = of[it->a] == NULL;
+    }
+    return LXR_OK;
+}
+
+static void play_apply(struct player *player) {
+    lxr_operation found[SEVERAL], wanted[SEVERAL];
+    size_t count = below(player, SEVERAL + 1), done_of = 99, at = 0;
+    lxr_code expected = LXR_OK;
+    for (size_t it = 0; it < count; it++) {
+        found[it] = wanted[it] = draw_operation(player);
+        if (!is_there(&wanted[it])) expected = LXR_E_REGISTER;
+    }
+    lxr_code code = lxr_mutator_apply(player->mutator, found, count, &done_of);
+    if (code == LXR_E_FULL && done_of < count && found[done_of].op == LXR_OP_NEW) count = done_of;
+    while (expected == LXR_OK && at < count) {
+        expected = do_on_graph(player, &wanted[at]);
+        at += expected == LXR_OK;
+    }
+    agree(player, "the operations that are done", done_of, at);
+    agree(player, "apply", code == LXR_E_FULL ? LXR_OK : code, expected);
+    for (size_t it = 0; it < count; it++) agree(player, "the word of an operation", found[it].word, wanted[it].word);
+    if (code == LXR_E_FULL) let_go(player);
+}
+
+static void play_several(struct player *player) {
+    switch (below(player, 4)) {
+    case 0: play_new_with(player); break;
+    case 1: play_words(player); break;
+    case 2: play_refs(player); break;
+    default: play_apply(player);
+    }
+}
+
 /* ---- What threads share ---- */
 
 /* The token in the thread's register for it is the one that it holds. */
@@ -253,15 +407,17 @@ static void play_counter(struct player *player) {
 }
 
 static void publish(struct player *player) {
-    uint64_t word = ++player->published;
-    lxr_code code = lxr_mutator_new(player->mutator, FOUND, 1, 2);
+    const uint32_t source = NIL_REGISTER;
+    uint64_t word = ++player->published, words[2] = { word, seal(player->number, word) };
+    bool whole = one_in(player, 2);
+    lxr_code code =
+        whole ? lxr_mutator_new_with(player->mutator, FOUND, &source, 1, words, 2) : lxr_mutator_new(player->mutator, FOUND, 1, 2);
     if (code == LXR_E_FULL) {
         let_go(player);
         return;
     }
     done(player, "new of an object to publish", code);
-    done(player, "put", lxr_mutator_put(player->mutator, FOUND, 0, word));
-    done(player, "put", lxr_mutator_put(player->mutator, FOUND, 1, seal(player->number, word)));
+    if (!whole) done(player, "put", lxr_mutator_put_many(player->mutator, FOUND, 0, words, 2));
     done(player, "store", lxr_mutator_store(player->mutator, WORLD, PUBLISHED + player->number, FOUND));
     if (one_in(player, 2)) done(player, "nil", lxr_mutator_nil(player->mutator, FOUND));
 }
@@ -332,7 +488,7 @@ static void play_rarely(struct player *player) {
 static void play_once(struct player *player) {
     player->operations++;
     if (one_in(player, 300)) play_rarely(player);
-    switch (below(player, 12)) {
+    switch (below(player, 13)) {
     case 0:
     case 1: play_new(player); break;
     case 2: play_load(player); break;
@@ -344,6 +500,7 @@ static void play_once(struct player *player) {
     case 8: play_token(player); break;
     case 9: play_counter(player); break;
     case 10: publish(player); break;
+    case 11: play_several(player); break;
     default: find_published(player);
     }
     if (one_in(player, 50)) done(player, "poll", lxr_mutator_poll(player->mutator));

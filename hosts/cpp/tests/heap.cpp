@@ -1,6 +1,7 @@
 // heap.cpp: tests of lxr.hpp. SPDX: MIT OR Apache-2.0
 #include "lxr.hpp"
 
+#include <array>
 #include <cstdint>
 #include <iostream>
 #include <stdexcept>
@@ -99,6 +100,102 @@ void world() {
     CHECK(heap.world().load(63).same(world));
 }
 
+/// Objects with their fields: of braces, of vectors and of arrays; a nil root is a nil reference.
+void made_with_fields() {
+    lxr::heap heap(2);
+    lxr::root list;
+    for (std::uint64_t number = 0; number < 100; ++number) list = heap.make_with({list}, {number, number * number});
+    heap.collect();
+    CHECK(heap.live() == 100);
+    for (std::uint64_t number = 100; number-- > 0; list.load_from(list, 0)) CHECK(list.get(1) == number * number && list.get(0) == number);
+    CHECK(!list);
+    const std::vector<std::uint64_t> words{5, 6, 7};
+    std::array<lxr::root, 3> roots{heap.make_with({}, words), lxr::root(), heap.make_with({}, {8})};
+    const lxr::root tree = heap.make_with(roots, {words.data() + 1, 2});
+    CHECK(tree.shape().refs == 3 && tree.shape().words == 2 && tree.get(0) == 6 && tree.get(1) == 7);
+    CHECK(tree.load(0).same(roots[0]) && !tree.load(1) && tree.load(2).get(0) == 8);
+    const lxr::root empty = heap.try_make_with({}, {});
+    CHECK(empty && empty.shape().refs == 0 && empty.shape().words == 0);
+    CHECK(heap.make_with({}, std::vector<std::uint64_t>(1023)).shape().words == 1023);
+    CHECK(throws(lxr::errc::size, [&] { (void)heap.make_with({}, std::vector<std::uint64_t>(1024)); }));
+    CHECK(throws(lxr::errc::size, [&] { (void)heap.make_with(std::vector<lxr::root>(1024), {}); }));
+    lxr::heap other(1);
+    CHECK(throws(lxr::errc::no_register, [&] { (void)other.make_with({tree}, {}); }));
+    CHECK(other.try_make_with({}, std::vector<std::uint64_t>(1023)));
+}
+
+/// Fields that are read and written together.
+void many_fields() {
+    lxr::heap heap(2);
+    lxr::root left = heap.make_with({}, {1}), right = heap.make_with({}, {2});
+    lxr::root node = heap.make(3, 5);
+    node.store_many(1, {left, right});
+    node.put_many(1, {10, 11, 12});
+    heap.collect();
+    const auto [none, first, second] = node.load_many<3>(0);
+    CHECK(!none && first.same(left) && second.same(right));
+    const auto [zero, ten] = node.get_many<2>(0);
+    CHECK(zero == 0 && ten == 10);
+    std::vector<std::uint64_t> found(4);
+    node.get_many(1, found);
+    CHECK((found == std::vector<std::uint64_t>{10, 11, 12, 0}));
+    node.put_many(2, {found.data(), 2});
+    CHECK(node.get(2) == 10 && node.get(3) == 11 && node.get(4) == 0);
+    node.store_many(0, std::array<lxr::root, 2>{right.copy(), lxr::root()});
+    CHECK(node.load(0).same(right) && !node.load(1));
+    lxr::root seen;
+    node.load_many(0, {seen, left, node});
+    CHECK(seen.same(right) && !left && node.same(right));
+    found.clear();
+    node.get_many(1, found);
+    node.put_many(1, {});
+    node.store_many(0, {});
+    node.load_many(0, {});
+}
+
+void errors_of_many() {
+    lxr::heap heap(1), other(1);
+    lxr::root pair = heap.make(2, 2), elsewhere = other.make(0, 0);
+    CHECK(throws(lxr::errc::index, [&] { pair.put_many(1, {1, 2}); }));
+    CHECK(throws(lxr::errc::index, [&] { (void)pair.get_many<3>(0); }));
+    CHECK(throws(lxr::errc::index, [&] { pair.put_many(3, {}); }));
+    CHECK(throws(lxr::errc::index, [&] { (void)pair.load_many<2>(1); }));
+    CHECK(throws(lxr::errc::index, [&] { pair.store_many(0, {pair, pair, pair}); }));
+    CHECK(throws(lxr::errc::index, [&] { pair.store_many(0, std::vector<lxr::root>(1024)); }));
+    CHECK(throws(lxr::errc::no_register, [&] { pair.store_many(0, {pair, elsewhere}); }));
+    CHECK(throws(lxr::errc::no_register, [&] { pair.load_many(0, {pair, pair}); }));
+    CHECK(throws(lxr::errc::no_register, [&] { (void)pair.load_many<14>(0); }));
+    CHECK(throws(lxr::errc::nil, [&] { lxr::root().put_many(0, {}); }));
+    CHECK(pair.get(1) == 0 && !pair.load(0));
+}
+
+void batches() {
+    lxr::heap heap(1), other(1);
+    lxr::root list = heap.make(1, 1), pair, none;
+    lxr::batch batch(heap);
+    batch.make(pair, 1, 1).put(pair, 0, 7).store(pair, 0, list).copy(list, pair).get(list, 0).same(list, pair).nil(pair).is_nil(pair);
+    batch.load(pair, list, 0).is_nil(pair);
+    CHECK(batch.size() == 10 && batch.done() == 0);
+    for (int round = 0; round < 3; ++round) {
+        batch.run();
+        CHECK(batch.done() == 10 && batch.told(4) == 7 && batch.told(5) == 1 && batch.told(7) == 1 && batch.told(9) == 0);
+    }
+    heap.collect();
+    CHECK(heap.live() == 4);
+    batch.clear();
+    batch.put(list, 0, 8).get(none, 0).put(list, 0, 9);
+    CHECK(throws(lxr::errc::nil, [&] { batch.run(); }));
+    CHECK(batch.done() == 1 && list.get(0) == 8);
+    batch.clear();
+    batch.run();
+    CHECK(batch.done() == 0);
+    batch.put(list, 0, 9).make(pair, 1024, 0);
+    CHECK(throws(lxr::errc::size, [&] { batch.run(); }));
+    CHECK(batch.done() == 0 && list.get(0) == 8);
+    const lxr::root elsewhere = other.make(0, 1);
+    CHECK(throws(lxr::errc::no_register, [&] { batch.get(elsewhere, 0); }));
+}
+
 void large_objects() {
     lxr::heap heap(1, 5);
     lxr::root body = heap.make_large(2);
@@ -163,6 +260,10 @@ int main() {
         lists();
         roots();
         world();
+        made_with_fields();
+        many_fields();
+        errors_of_many();
+        batches();
         large_objects();
         errors();
         moved_heaps();

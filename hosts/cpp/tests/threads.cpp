@@ -222,6 +222,39 @@ void paces() {
     }
 }
 
+/// Lists whose objects are made with their fields, beside other threads; and operations in a row.
+void several_at_once() {
+    lxr::shared_heap heap(8, hosts);
+    on_threads(hosts, [&](unsigned number) {
+        lxr::mutator self(heap);
+        lxr::local list, found;
+        lxr::shared_batch batch(self);
+        batch.make(found, 1, 2).put(found, 1, 5).fetch_add(found, 1, number).exchange(found, found, 0, found).is_nil(found);
+        for (std::uint64_t n = 0; n < rounds; ++n) {
+            const lxr::local pair = self.make_with({list}, {n, number});
+            if (n < listed) list = pair.copy();
+            if (n % listed) continue;
+            batch.run();
+            CHECK(batch.done() == 5 && batch.told(2) == 5 && batch.told(4) == 1);
+        }
+        for (std::uint64_t n = listed; n-- > 0; list.load_many(0, {list})) {
+            const auto [first_word, second_word] = list.get_many<2>(0);
+            CHECK(first_word == n && second_word == number);
+        }
+        CHECK(!list);
+    });
+    lxr::mutator self(heap);
+    lxr::local node = self.make(2, 2);
+    node.store_many(0, {node, self.world()});
+    node.put_many(0, {3, 4});
+    const auto [itself, world] = node.load_many<2>(0);
+    CHECK(itself.same(node) && world.same(self.world()) && node.get(1) == 4);
+    CHECK(self.try_make_with({node}, {}) && self.try_make_with({}, {}));
+    CHECK(throws(lxr::errc::size, [&] { (void)self.make_with({}, std::vector<std::uint64_t>(1024)); }));
+    CHECK(throws(lxr::errc::index, [&] { node.put_many(0, {5, 6, 7}); }));
+    CHECK(node.get(0) == 5 && node.get(1) == 6);
+}
+
 /// Each thread holds as much as there is room for: the heap is full for all of them, and has room again.
 void full_heaps() {
     lxr::shared_heap heap(2, hosts);
@@ -251,6 +284,7 @@ int main() {
         own_lists();
         one_queue();
         one_counter();
+        several_at_once();
         resting_threads();
         comings_and_goings();
         errors();

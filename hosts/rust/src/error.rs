@@ -19,7 +19,7 @@ pub enum Error {
     Full,
     /// The machine has no memory for the heap, or starts no further thread.
     Memory,
-    /// The register keeps the world: register 0 of a mutator isn't written to.
+    /// A register that can't be written to: register 0 of a mutator, which keeps the world, or one that the same call reads too.
     Register,
     /// As many mutators are in the heap as may be.
     Number,
@@ -39,7 +39,7 @@ impl fmt::Display for Error {
             Error::Index => f.write_str("the object has no such field"),
             Error::Full => f.write_str("the heap is full"),
             Error::Memory => f.write_str("out of memory"),
-            Error::Register => f.write_str("the register keeps the world"),
+            Error::Register => f.write_str("the register can't be written to"),
             Error::Number => f.write_str("no place for a further mutator"),
             Error::UsedUp => f.write_str("names are to be renewed first"),
             Error::Lost => f.write_str("the heap is lost for want of memory"),

@@ -40,16 +40,19 @@
 struct Readme;
 
 mod error;
+mod operation;
 mod register;
 mod settings;
 pub mod threads;
 
 pub use error::Error;
+pub use operation::{Operation, Stopped};
 pub use register::{Register, R0, R1, R10, R11, R12, R13, R14, R15, R2, R3, R4, R5, R6, R7, R8, R9};
 pub use settings::{Count, Pace, Settings};
 
 use error::done;
 use kogyulen_sys as raw;
+use register::numbers;
 
 /// The references of the world.
 pub const WORLD_REFS: u32 = raw::LXR_WORLD_REFS;
@@ -110,6 +113,81 @@ impl Heap {
     /// [`Error::Size`], and [`Error::Full`] where what can be reached leaves no room even so.
     pub fn make(&mut self, dest: Register, refs: u32, words: u32) -> Result<(), Error> {
         done(unsafe { raw::lxr_new(&mut self.handle, dest.number(), refs, words) })
+    }
+
+    /// The register holds a new object: its references are what these registers hold, and its data words are these. No pause comes between
+    /// the object and its fields.
+    ///
+    /// ```
+    /// # use kogyulen::{Heap, Settings, R1, R2};
+    /// # fn main() -> Result<(), kogyulen::Error> {
+    /// # let mut heap = Heap::open(&Settings::new(1))?;
+    /// heap.make_with(R1, &[], &[7])?;
+    /// heap.make_with(R2, &[R1, R1], &[8, 9])?;
+    /// # assert_eq!(heap.get(R2, 1), Ok(9));
+    /// # Ok(())
+    /// # }
+    /// ```
+    ///
+    /// # Errors
+    /// [`Error::Register`] where `dest` is among the references, [`Error::Size`] and [`Error::Full`].
+    pub fn make_with(&mut self, dest: Register, refs: &[Register], words: &[u64]) -> Result<(), Error> {
+        done(unsafe { raw::lxr_new_with(&mut self.handle, dest.number(), numbers(refs), refs.len(), words.as_ptr(), words.len()) })
+    }
+
+    /// Reads data words of the base's object from an index on: all that fit the slice, or none.
+    ///
+    /// # Errors
+    /// [`Error::Nil`], and [`Error::Index`] where the object doesn't have them all.
+    pub fn get_many(&self, base: Register, first: u32, into: &mut [u64]) -> Result<(), Error> {
+        done(unsafe { raw::lxr_get_many(&self.handle, base.number(), first, into.as_mut_ptr(), into.len()) })
+    }
+
+    /// Writes data words of the base's object from an index on: all of the slice, or none.
+    ///
+    /// # Errors
+    /// [`Error::Nil`], and [`Error::Index`] where the object doesn't have them all.
+    pub fn put_many(&mut self, base: Register, first: u32, from: &[u64]) -> Result<(), Error> {
+        done(unsafe { raw::lxr_put_many(&mut self.handle, base.number(), first, from.as_ptr(), from.len()) })
+    }
+
+    /// These registers hold what references of the base's object from an index on refer to, in order: all of them, or none.
+    ///
+    /// # Errors
+    /// [`Error::Register`] where the base is among them and isn't the last, [`Error::Nil`], and [`Error::Index`] where the object doesn't have
+    /// them all.
+    pub fn load_many(&mut self, base: Register, first: u32, into: &[Register]) -> Result<(), Error> {
+        done(unsafe { raw::lxr_load_many(&mut self.handle, base.number(), first, numbers(into), into.len()) })
+    }
+
+    /// References of the base's object from an index on become what these registers hold: all of them, or none.
+    ///
+    /// # Errors
+    /// [`Error::Nil`], and [`Error::Index`] where the object doesn't have them all.
+    pub fn store_many(&mut self, base: Register, first: u32, sources: &[Register]) -> Result<(), Error> {
+        done(unsafe { raw::lxr_store_many(&mut self.handle, base.number(), first, numbers(sources), sources.len()) })
+    }
+
+    /// Does operations in order, each as the method of its name, up to the first that is refused.
+    ///
+    /// ```
+    /// # use kogyulen::{Heap, Operation, Settings, R1, R2};
+    /// # fn main() -> Result<(), kogyulen::Error> {
+    /// # let mut heap = Heap::open(&Settings::new(1))?;
+    /// let mut operations = [Operation::make(R1, 1, 1), Operation::put(R1, 0, 7), Operation::copy(R2, R1), Operation::get(R2, 0)];
+    /// heap.apply(&mut operations)?;
+    /// assert_eq!(operations[3].told(), 7);
+    /// # Ok(())
+    /// # }
+    /// ```
+    ///
+    /// # Errors
+    /// That of the operation, with how many are done. Where a size is out of its range, none is.
+    pub fn apply(&mut self, operations: &mut [Operation]) -> Result<(), Stopped> {
+        let mut count = 0;
+        // SAFETY: besides, an operation is the library's, by its representation.
+        let code = unsafe { raw::lxr_apply(&mut self.handle, operations.as_mut_ptr().cast(), operations.len(), &mut count) };
+        Stopped::by(code, count)
     }
 
     /// The register holds a new large object, with a body of 1 to 128 blocks whose words are 0.

@@ -13,13 +13,14 @@ use std::fmt;
 /// assert_eq!(Register::all().count(), 16);
 /// ```
 #[derive(Clone, Copy, PartialEq, Eq, PartialOrd, Ord, Hash)]
-pub struct Register(u8);
+#[repr(transparent)]
+pub struct Register(u32);
 
 impl Register {
     /// The register of a number from 0 to 15.
     pub const fn new(number: u32) -> Option<Register> {
         if number < 16 {
-            Some(Register(number as u8))
+            Some(Register(number))
         } else {
             None
         }
@@ -27,13 +28,18 @@ impl Register {
 
     /// Its number, from 0 to 15.
     pub const fn number(self) -> u32 {
-        self.0 as u32
+        self.0
     }
 
     /// All sixteen, in order.
     pub fn all() -> impl DoubleEndedIterator<Item = Register> + ExactSizeIterator {
         (0..16).map(Register)
     }
+}
+
+/// The numbers of registers, as the library reads them.
+pub(crate) fn numbers(registers: &[Register]) -> *const u32 {
+    registers.as_ptr().cast()
 }
 
 impl fmt::Display for Register {

@@ -39,7 +39,8 @@ use std::ptr::{self, NonNull};
 use std::time::Duration;
 
 use crate::error::{done, Error};
-use crate::register::Register;
+use crate::operation::{name_operations, Stopped};
+use crate::register::{numbers, Register};
 use crate::settings::Pace;
 use kogyulen_sys as raw;
 
@@ -414,6 +415,60 @@ impl Mutator<'_> {
         done(unsafe { raw::lxr_mutator_nil(self.raw(), dest.number()) })
     }
 
+    /// The register holds a new object: its references are what these registers hold, and its data words are these. No other thread finds it
+    /// before it is stored.
+    ///
+    /// # Errors
+    /// [`Error::Register`] for [`R0`](crate::R0), or where `dest` is among the references; [`Error::Size`] and [`Error::Full`].
+    pub fn make_with(&mut self, dest: Register, refs: &[Register], words: &[u64]) -> Result<(), Error> {
+        done(unsafe { raw::lxr_mutator_new_with(self.raw(), dest.number(), numbers(refs), refs.len(), words.as_ptr(), words.len()) })
+    }
+
+    /// Reads data words of the base's object from an index on, one after another.
+    ///
+    /// # Errors
+    /// [`Error::Nil`], and [`Error::Index`] at the first that isn't there.
+    pub fn get_many(&mut self, base: Register, first: u32, into: &mut [u64]) -> Result<(), Error> {
+        done(unsafe { raw::lxr_mutator_get_many(self.raw(), base.number(), first, into.as_mut_ptr(), into.len()) })
+    }
+
+    /// Writes data words of the base's object from an index on, one after another.
+    ///
+    /// # Errors
+    /// [`Error::Nil`], and [`Error::Index`] at the first that isn't there.
+    pub fn put_many(&mut self, base: Register, first: u32, from: &[u64]) -> Result<(), Error> {
+        done(unsafe { raw::lxr_mutator_put_many(self.raw(), base.number(), first, from.as_ptr(), from.len()) })
+    }
+
+    /// These registers hold what references of the base's object from an index on refer to, one after another.
+    ///
+    /// # Errors
+    /// [`Error::Register`] where [`R0`](crate::R0) is among them, or the base and isn't the last; [`Error::Nil`], and [`Error::Index`] at the
+    /// first that isn't there.
+    pub fn load_many(&mut self, base: Register, first: u32, into: &[Register]) -> Result<(), Error> {
+        done(unsafe { raw::lxr_mutator_load_many(self.raw(), base.number(), first, numbers(into), into.len()) })
+    }
+
+    /// References of the base's object from an index on become what these registers hold, one after another.
+    ///
+    /// # Errors
+    /// [`Error::Nil`], and [`Error::Index`] at the first that isn't there.
+    pub fn store_many(&mut self, base: Register, first: u32, sources: &[Register]) -> Result<(), Error> {
+        done(unsafe { raw::lxr_mutator_store_many(self.raw(), base.number(), first, numbers(sources), sources.len()) })
+    }
+
+    /// Does operations in order, each as the method of its name, up to the first that is refused. Pauses may come between, and other threads
+    /// see what is done so far.
+    ///
+    /// # Errors
+    /// That of the operation, with how many are done. Where one writes to [`R0`](crate::R0), or has a size out of its range, none is.
+    pub fn apply(&mut self, operations: &mut [Operation]) -> Result<(), Stopped> {
+        let mut count = 0;
+        // SAFETY: besides, an operation is the library's, by its representation.
+        let code = unsafe { raw::lxr_mutator_apply(self.raw(), operations.as_mut_ptr().cast(), operations.len(), &mut count) };
+        Stopped::by(code, count)
+    }
+
     /// Makes a pause, which waits until all other threads have come to an operation or rest.
     ///
     /// # Errors
@@ -466,6 +521,25 @@ impl Drop for Mutator<'_> {
 impl fmt::Debug for Mutator<'_> {
     fn fmt(&self, f: &mut fmt::Formatter<'_>) -> fmt::Result {
         f.debug_struct("Mutator").finish_non_exhaustive()
+    }
+}
+
+/// An operation of [`Mutator::apply`], with what it told as it was done.
+#[derive(Clone, Copy, Debug, PartialEq, Eq, Hash)]
+#[repr(transparent)]
+pub struct Operation(raw::Operation);
+
+name_operations!(Operation, "Mutator");
+
+impl Operation {
+    /// As [`Mutator::swap`].
+    pub const fn swap(dest: Register, base: Register, index: u32, source: Register) -> Operation {
+        Operation::new(raw::LXR_OP_SWAP, dest, base.number(), index).with(source.number() as u64)
+    }
+
+    /// As [`Mutator::add`]: it tells what the word was, and to add again it is made anew.
+    pub const fn add(base: Register, index: u32, word: u64) -> Operation {
+        Operation::new(raw::LXR_OP_ADD, base, index, 0).with(word)
     }
 }
 

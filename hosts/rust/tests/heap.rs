@@ -1,6 +1,6 @@
 //! Calls on heaps, and what they answer.
 
-use kogyulen::{Count, Error, Heap, Pace, Register, Settings, BLOCK_WORDS, R0, R1, R15, R2, R3, WORLD_REFS};
+use kogyulen::{Count, Error, Heap, Operation, Pace, Register, Settings, Stopped, BLOCK_WORDS, R0, R1, R15, R2, R3, R4, WORLD_REFS};
 
 /// The numbers of references, of data words and of blocks of a body.
 fn shape(heap: &Heap, base: Register) -> Option<(u32, u32, u32)> {
@@ -67,6 +67,81 @@ fn a_heap_goes_to_another_thread_and_back() -> Result<(), Error> {
     heap.clear(R2);
     heap.collect();
     assert_eq!(heap.count(Count::Live), 0);
+    Ok(())
+}
+
+#[test]
+fn objects_are_made_with_their_fields() -> Result<(), Error> {
+    let mut heap = Heap::open(&Settings::new(2))?;
+    for number in 0..100 {
+        heap.make_with(R1, &[R2, R15], &[number, number * number])?;
+        heap.copy(R2, R1);
+    }
+    heap.collect();
+    assert_eq!((heap.count(Count::Live), shape(&heap, R2)), (100, Some((2, 2, 0))));
+    for number in (0..100).rev() {
+        let mut words = [0; 2];
+        heap.get_many(R2, 0, &mut words)?;
+        assert_eq!(words, [number, number * number]);
+        heap.load_many(R2, 0, &[R2])?;
+    }
+    assert!(heap.is_nil(R2));
+    assert_eq!(heap.make_with(R1, &[R2, R1], &[]), Err(Error::Register));
+    assert_eq!(heap.make_with(R3, &[R2; 1024], &[]), Err(Error::Size));
+    assert_eq!(heap.make_with(R3, &[], &[0; 1024]), Err(Error::Size));
+    assert!(heap.is_nil(R3));
+    heap.make_with(R3, &[], &[])?;
+    assert_eq!(shape(&heap, R3), Some((0, 0, 0)));
+    Ok(())
+}
+
+#[test]
+fn many_fields_are_read_and_written_or_none() -> Result<(), Error> {
+    let mut heap = Heap::open(&Settings::new(1))?;
+    heap.make(R1, 3, 4)?;
+    heap.put_many(R1, 1, &[5, 6])?;
+    assert_eq!(heap.put_many(R1, 2, &[7, 8, 9]), Err(Error::Index));
+    let mut words = [1; 4];
+    heap.get_many(R1, 0, &mut words)?;
+    assert_eq!(words, [0, 5, 6, 0]);
+    assert_eq!(heap.get_many(R1, 1, &mut words), Err(Error::Index));
+    assert_eq!(words, [0, 5, 6, 0]);
+    heap.store_many(R1, 1, &[R1, R0])?;
+    assert_eq!(heap.store_many(R1, 0, &[R0; 4]), Err(Error::Index));
+    heap.load_many(R1, 0, &[R2, R3, R4])?;
+    assert!(heap.is_nil(R2) && heap.same(R3, R1) && heap.same(R4, R0));
+    assert_eq!(heap.load_many(R1, 0, &[R1, R2]), Err(Error::Register));
+    assert_eq!(heap.load_many(R2, 0, &[]), Err(Error::Nil));
+    heap.load_many(R1, 0, &[R4, R3, R1])?;
+    assert!(heap.is_nil(R4) && heap.same(R1, R0));
+    Ok(())
+}
+
+#[test]
+fn operations_are_done_up_to_the_first_that_is_refused() -> Result<(), Error> {
+    let mut heap = Heap::open(&Settings::new(1))?;
+    let mut operations = [
+        Operation::make(R1, 1, 1),
+        Operation::put(R1, 0, 7),
+        Operation::store(R1, 0, R1),
+        Operation::load(R2, R1, 0),
+        Operation::same(R1, R2),
+        Operation::get(R2, 0),
+        Operation::copy(R3, R2),
+        Operation::clear(R2),
+        Operation::is_nil(R2),
+        Operation::get(R2, 0),
+        Operation::clear(R3),
+    ];
+    let stopped = heap.apply(&mut operations).unwrap_err();
+    assert_eq!((stopped.done, stopped.error), (9, Error::Nil));
+    assert_eq!(stopped.to_string(), "the register is nil, after 9 operations");
+    assert_eq!([4, 5, 8].map(|at: usize| operations[at].told()), [1, 7, 1]);
+    assert_eq!((heap.same(R1, R3), heap.get(R3, 0)), (true, Ok(7)));
+    let sized = heap.apply(&mut [Operation::clear(R3), Operation::make(R1, 1024, 0)]);
+    assert_eq!(sized.map_err(|Stopped { done, error, .. }| (done, error)), Err((0, Error::Size)));
+    assert!(!heap.is_nil(R3));
+    heap.apply(&mut [])?;
     Ok(())
 }
 

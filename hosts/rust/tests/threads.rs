@@ -3,7 +3,7 @@
 use std::sync::{Arc, Mutex};
 use std::thread;
 
-use kogyulen::threads::{Count, Kind, Mutator, Settings, SharedHeap};
+use kogyulen::threads::{Count, Kind, Mutator, Operation, Settings, SharedHeap};
 use kogyulen::{Error, Pace, R0, R1, R15, R2, R3, R4};
 
 const HOSTS: u32 = 4;
@@ -244,6 +244,46 @@ fn what_cannot_be_done_is_told() -> Result<(), Error> {
     assert_eq!((own.same(R1, R3), own.same(R2, R4), own.same(R2, R3)), (Ok(true), Ok(true), Ok(false)));
     own.clear(R3)?;
     assert_eq!(own.same(R2, R3), Ok(true));
+    Ok(())
+}
+
+#[test]
+fn several_operations_are_made_one_after_another() -> Result<(), Error> {
+    let heap = open(8, HOSTS);
+    on_threads(&heap, |mut own, number| {
+        for n in 0..ROUNDS {
+            own.make_with(R2, &[R1], &[n, number])?;
+            if n < LISTED {
+                own.copy(R1, R2)?;
+            }
+        }
+        let mut words = [0; 2];
+        for n in (0..LISTED).rev() {
+            own.get_many(R1, 0, &mut words)?;
+            assert_eq!(words, [n, number]);
+            own.load_many(R1, 0, &[R1])?;
+        }
+        assert_eq!(own.get_many(R1, 0, &mut words), Err(Error::Nil));
+        Ok(())
+    })?;
+    let mut own = heap.enter()?;
+    own.make_with(R1, &[R0, R15], &[1, 2])?;
+    assert_eq!(own.put_many(R1, 1, &[3, 4]), Err(Error::Index));
+    own.store_many(R1, 1, &[R1])?;
+    assert_eq!(own.load_many(R1, 0, &[R0]), Err(Error::Register));
+    assert_eq!(own.make_with(R1, &[R1], &[]), Err(Error::Register));
+    let mut operations = [
+        Operation::add(R1, 1, 4),
+        Operation::swap(R2, R1, 1, R15),
+        Operation::same(R1, R2),
+        Operation::get(R1, 1),
+        Operation::load(R1, R15, 0),
+    ];
+    let stopped = own.apply(&mut operations).unwrap_err();
+    assert_eq!((stopped.done, stopped.error), (4, Error::Nil));
+    assert_eq!([0, 2, 3].map(|at: usize| operations[at].told()), [3, 1, 7]);
+    let refused = own.apply(&mut [Operation::clear(R1), Operation::clear(R0)]).unwrap_err();
+    assert_eq!((refused.done, refused.error, own.get(R1, 0)), (0, Error::Register, Ok(1)));
     Ok(())
 }
 

@@ -59,6 +59,16 @@ pub const LXR_COUNT_FREE_BLOCKS: u32 = 6;
 pub const LXR_COUNT_FREE_BODY_BYTES: u32 = 7;
 pub const LXR_COUNT_LAST_KIND: u32 = 11;
 
+pub const LXR_OP_NEW: u32 = 0;
+pub const LXR_OP_LOAD: u32 = 1;
+pub const LXR_OP_STORE: u32 = 2;
+pub const LXR_OP_GET: u32 = 3;
+pub const LXR_OP_PUT: u32 = 4;
+pub const LXR_OP_SAME: u32 = 5;
+pub const LXR_OP_MOVE: u32 = 6;
+pub const LXR_OP_NIL: u32 = 7;
+pub const LXR_OP_IS_NIL: u32 = 8;
+
 pub const LXR_KIND_PLAIN: u64 = 0;
 pub const LXR_KIND_BEGIN: u64 = 1;
 pub const LXR_KIND_END: u64 = 2;
@@ -84,6 +94,17 @@ pub struct Settings {
     pub pace: u64,
 }
 
+/// What `lxr_operation` is.
+#[derive(Clone, Copy, Debug, PartialEq, Eq, Hash)]
+#[repr(C)]
+pub struct Operation {
+    pub op: u32,
+    pub a: u32,
+    pub b: u32,
+    pub c: u32,
+    pub word: u64,
+}
+
 extern "C" {
     pub fn lxr_version() -> u32;
     pub fn lxr_message(code: Code) -> *const c_char;
@@ -99,6 +120,12 @@ extern "C" {
     pub fn lxr_nil(heap: *mut Handle, dest: u32) -> Code;
     pub fn lxr_is_nil(heap: *const Handle, source: u32, is_nil: *mut u32) -> Code;
     pub fn lxr_shape(heap: *const Handle, base: u32, refs: *mut u32, words: *mut u32, blocks: *mut u32) -> Code;
+    pub fn lxr_new_with(heap: *mut Handle, dest: u32, sources: *const u32, refs: usize, data: *const u64, words: usize) -> Code;
+    pub fn lxr_get_many(heap: *const Handle, base: u32, first: u32, words: *mut u64, count: usize) -> Code;
+    pub fn lxr_put_many(heap: *mut Handle, base: u32, first: u32, words: *const u64, count: usize) -> Code;
+    pub fn lxr_load_many(heap: *mut Handle, base: u32, first: u32, registers: *const u32, count: usize) -> Code;
+    pub fn lxr_store_many(heap: *mut Handle, base: u32, first: u32, registers: *const u32, count: usize) -> Code;
+    pub fn lxr_apply(heap: *mut Handle, operations: *mut Operation, count: usize, done: *mut usize) -> Code;
     pub fn lxr_large_new(heap: *mut Handle, dest: u32, blocks: u32) -> Code;
     pub fn lxr_large_get(heap: *const Handle, base: u32, index: u32, word: *mut u64) -> Code;
     pub fn lxr_large_put(heap: *mut Handle, base: u32, index: u32, word: u64) -> Code;
@@ -117,6 +144,9 @@ pub const LXR_MOST_LOG: u32 = 65536;
 pub const LXR_MOST_REMEMBER: u32 = 1048576;
 pub const LXR_MOST_EVERY: u32 = 1000000;
 pub const LXR_MOST_TRACE: u32 = 1000000;
+
+pub const LXR_OP_SWAP: u32 = 9;
+pub const LXR_OP_ADD: u32 = 10;
 
 pub const LXR_COUNT_COLLECTING: u32 = 8;
 pub const LXR_COUNT_ENTERED: u32 = 9;
@@ -181,6 +211,13 @@ extern "C" {
     pub fn lxr_mutator_same(mutator: *mut Mutator, left: u32, right: u32, same: *mut u32) -> Code;
     pub fn lxr_mutator_move(mutator: *mut Mutator, dest: u32, source: u32) -> Code;
     pub fn lxr_mutator_nil(mutator: *mut Mutator, dest: u32) -> Code;
+    pub fn lxr_mutator_new_with(mutator: *mut Mutator, dest: u32, sources: *const u32, refs: usize, data: *const u64, words: usize)
+        -> Code;
+    pub fn lxr_mutator_get_many(mutator: *mut Mutator, base: u32, first: u32, words: *mut u64, count: usize) -> Code;
+    pub fn lxr_mutator_put_many(mutator: *mut Mutator, base: u32, first: u32, words: *const u64, count: usize) -> Code;
+    pub fn lxr_mutator_load_many(mutator: *mut Mutator, base: u32, first: u32, registers: *const u32, count: usize) -> Code;
+    pub fn lxr_mutator_store_many(mutator: *mut Mutator, base: u32, first: u32, registers: *const u32, count: usize) -> Code;
+    pub fn lxr_mutator_apply(mutator: *mut Mutator, operations: *mut Operation, count: usize, done: *mut usize) -> Code;
     pub fn lxr_mutator_pause(mutator: *mut Mutator) -> Code;
     pub fn lxr_mutator_collect(mutator: *mut Mutator) -> Code;
 }

@@ -1,0 +1,14 @@
+pub mod FollowLemmas
+pub mod FieldLemmas
+pub mod StateLemmas
+pub mod StepLemmas
+pub mod WordLemmas
+pub mod LoadLemmas
+pub mod RecordLemmas
+pub mod StoringLemmas
+pub mod LogLemmas
+pub mod HostLemmas
+pub mod WantedLemmas
+pub mod MakingLemmas
+pub mod ApplyLemmas
+pub mod CallLemmas

@@ -1,0 +1,10 @@
+use Rattle.std.proofs.Common.{subst}
+use Rattle.std.proofs.lemmas.Option.{same_Some}
+use Rattle.lxr_c_heap.specs.Hosting.{IsServing}
+use Rattle.lxr_c_many.proofs.applying.apply.Goals as goal
+
+pub perform_all-requires-clause-serving : goal.perform_all-requires-clause-serving
+perform_all-requires-clause-serving c = c.args.handle.now.serving c.lend.result.now c.lend.ensures.heap
+
+pub invariant_of-handle-clause-serving : goal.invariant_of-handle-clause-serving
+invariant_of-handle-clause-serving c = λ x is. subst IsServing (same_Some c.perform_all.new.heap x is) c.perform_all.ensures.serving

@@ -1,0 +1,39 @@
+use Rattle.std.proofs.Common.{◌+◌, ◌∷◌, ◌++◌, ◌∙◌, sym, length}
+use mathlib.Core.Logic.{∥∥₁_elim, ∥∥₁_prop}
+use Rattle.lxr_large_model.specs.History.{Called}
+use Rattle.lxr_c_many.specs.Fields.{store_of}
+use Rattle.lxr_c_many.specs.Following.{newest_first}
+use Rattle.lxr_c_many.specs.Making.{new_of}
+use Rattle.lxr_c_many.proofs.FollowLemmas.{follows_holds, follows_on}
+use Rattle.lxr_c_many.proofs.MakingLemmas.{filled, made_object, none_filled}
+use Rattle.lxr_c_many.proofs.StateLemmas.{stores_keep_words}
+use Rattle.lxr_c_many.proofs.making.make.Goals as goal
+
+pub returns-then-not-makes_one-clause-makes : goal.returns-then-not-makes_one-clause-makes
+returns-then-not-makes_one-clause-makes c = λ h is.
+    let makes = c.make-reply.ensures.makes h is in
+    record {
+      made = c.make-reply.new.self;
+      makes = makes;
+      fills = none_filled c.args.wanted c.args.sources.now c.args.words.now c.make-reply.new.self (Called (new_of c.args.wanted) c.make-reply.result ∷ makes.acts.history) c.make-reply.result (sym c.makes_one.ensures ∙ c.if-not-makes_one.true);
+    }
+
+pub store_all-requires-clause-ready : goal.store_all-requires-clause-ready
+store_all-requires-clause-ready c = ∥∥₁_elim c.requires.serving.holds ∥∥₁_prop (λ of.
+    let made = made_object c.args.sources.now c.args.words.now c.args.wanted c.args.heap.now c.make-reply.new.self of.0 c.make-reply.result c.requires.wanted of.1 (sym c.makes_one.ensures ∙ c.if-not-makes_one.false) (c.make-reply.ensures.makes of.0 of.1) in
+    ∣ (_, made.holds, made.references) ∣₁)
+
+pub returns-clause-makes : goal.returns-clause-makes
+returns-clause-makes c = λ h is.
+    let makes = c.make-reply.ensures.makes h is in
+    let k = Called (new_of c.args.wanted) c.make-reply.result ∷ makes.acts.history in
+    let made = made_object c.args.sources.now c.args.words.now c.args.wanted c.args.heap.now c.make-reply.new.self h c.make-reply.result c.requires.wanted is (sym c.makes_one.ensures ∙ c.if-not-makes_one.false) makes in
+    let stores = newest_first (store_of c.args.wanted.dest) 0 c.args.sources.now in
+    let stored = c.store_all.ensures.follows k made.holds made.references in
+    let put = c.write_all.ensures.follows (stores ++ k) (follows_holds c.make-reply.new.self c.store_all.new.heap k stores made.holds stored)
+    (stores_keep_words c.args.wanted.dest 0 (0 + length c.args.words.now) c.args.sources.now k made.data_words) in
+    record {
+      made = c.make-reply.new.self;
+      makes = makes;
+      fills = filled c.args.wanted c.args.sources.now c.args.words.now c.make-reply.new.self c.write_all.new.heap k c.make-reply.result (sym c.makes_one.ensures ∙ c.if-not-makes_one.false) (follows_on c.make-reply.new.self c.store_all.new.heap c.write_all.new.heap k stores _ stored put);
+    }

@@ -1,0 +1,32 @@
+use Rattle.std.proofs.Common.{arith, refl, subst, length, ◌<◌, ◌++◌, take}
+use Rattle.std.proofs.lemmas.List.{take_all}
+use Rattle.lxr_large_model.specs.History.{large_state}
+use Rattle.lxr_c_many.specs.Fields.{load_of}
+use Rattle.lxr_c_many.specs.Following.{Follows, newest_first}
+use Rattle.lxr_c_many.proofs.FollowLemmas.{follows_holds}
+use Rattle.lxr_c_many.proofs.LoadLemmas.{loaded_more, loaded_none, next_reference, register_small}
+use Rattle.lxr_c_many.proofs.references.load_all.Goals as goal
+
+pub loop-i-init : goal.loop-i-init
+loop-i-init c = record { serving = c.requires.serving; loaded = λ h is has. loaded_none c.args.heap.now h c.args.base c.args.first c.args.targets.now }
+
+pub load_at-requires-clause-registers : goal.load_at-requires-clause-registers
+load_at-requires-clause-registers c = (register_small c.args.targets.now c.loop-i.i c.requires.targets (omega arith), c.requires.base)
+
+pub loop-i-preserved : goal.loop-i-preserved
+loop-i-preserved c =
+    let x = c.args.heap.now in
+    let within : c.loop-i.i < length c.args.targets.now = omega arith in
+    record {
+      serving = c.load_at.ensures.serving;
+      loaded = λ h is has.
+          let before = c.loop-i.invariant.loaded h is has in
+          let new = newest_first (load_of (large_state h) c.args.base) c.args.first (take c.loop-i.i c.args.targets.now) in
+          loaded_more x c.loop-i.heap c.load_at.new.heap h c.args.base c.args.first c.args.targets.now c.loop-i.i _ c.requires.apart before within refl
+          (c.load_at.ensures.loaded (new ++ h) (follows_holds x c.loop-i.heap h new is before.follows) (next_reference x c.loop-i.heap h c.args.base c.args.first c.args.targets.now c.loop-i.i _ has before within refl));
+    }
+
+pub returns-clause-follows : goal.returns-clause-follows
+returns-clause-follows c = λ h is has.
+    let loaded = c.loop-i.invariant.loaded h is has in
+    subst (λ ts. Follows c.args.heap.now h c.loop-i.heap (newest_first (load_of (large_state h) c.args.base) c.args.first ts)) (take_all c.loop-i.i c.args.targets.now (omega arith)) loaded.follows

@@ -1,0 +1,5 @@
+use Rattle.lxr_c_many.proofs.StepLemmas.{put_done}
+use Rattle.lxr_c_many.proofs.steps.put_at.Goals as goal
+
+pub returns-clause-put : goal.returns-clause-put
+returns-clause-put c = λ h is has. put_done c.args.heap.now c.reply.new.self h c.args.base c.args.index c.args.value c.reply.result has (c.reply.ensures.replies h is)

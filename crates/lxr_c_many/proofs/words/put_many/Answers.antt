@@ -1,0 +1,18 @@
+use Rattle.std.proofs.Common.{◌∙◌, refl, sym, Some, subst}
+use Rattle.std.proofs.lemmas.Option.{same_Some}
+use Rattle.lxr_c_base.specs.Requests.{register_of}
+use Rattle.lxr_c_heap.specs.Hosting.{IsServing}
+use Rattle.lxr_c_many.specs.Calling.{PutsWords}
+use Rattle.lxr_c_many.proofs.CallLemmas.{does_done}
+use Rattle.lxr_c_many.proofs.words.put_many.Goals as goal
+
+pub write-requires-clause-serving : goal.write-requires-clause-serving
+write-requires-clause-serving c = c.args.handle.now.serving c.lend.result.now c.lend.ensures.heap
+
+pub invariant_of-handle-clause-serving : goal.invariant_of-handle-clause-serving
+invariant_of-handle-clause-serving c = λ x is. subst IsServing (same_Some c.write.new.heap x is) c.write.ensures.serving
+
+pub returns : goal.returns
+returns c =
+    does_done (PutsWords c.args.first c.args.words.now) c.args.handle.now.block.value (Some c.write.new.heap) c.lend.result.now c.write.new.heap (register_of c.args.base) c.in_ok-base.base c.write.result
+    c.lend.ensures.heap refl (sym c.register_of.ensures ∙ c.in_ok-base.was) (λ h is. c.write.ensures.writes h is.heap)

@@ -1,0 +1,7 @@
+pub mod Following
+pub mod Fields
+pub mod Recording
+pub mod Steps
+pub mod Calling
+pub mod Making
+pub mod Applying

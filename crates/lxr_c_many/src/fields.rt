@@ -1,0 +1,99 @@
+//! Which fields of an object a call means, and whether they are all there.
+ghost use Rattle.std.specs.Prelude.{◌≡◌, ◌+◌, ◌<◌, ◌^◌, nat_le, IfOk, IsTrue, List, if◌then◌else◌};
+ghost use Rattle.lxr_large_model.specs.History.{LargeItem, large_state};
+ghost use Rattle.lxr_heap.specs.declared.bulk.BodyReply.TheVariants as body_reply;
+ghost use Rattle.lxr_heap.specs.Holding.{IsHeapOf};
+ghost use Rattle.lxr_c_many.specs.Fields as fields;
+ghost use Rattle.lxr_c_many.specs.Fields.{comes_to, references_in, words_in};
+
+use lxr_c_base::Code;
+use lxr_c_base::requests::register_of;
+use lxr_heap::{BodyReply, LargeHeap};
+
+/// Whether an object with so many fields of a kind has these: so many from `first` on.
+fn has_all(most: u16, first: u32, count: usize) -> bool
+    ensures all { result ≡ nat_le (first + count) most }
+    ensures few { IsTrue result → first + count < 2 ^ 16 }
+{
+    let most = usize::from(most);
+    let first = first as usize;
+    first <= most && count <= most - first
+}
+
+/// What a call comes to, by whether all fields are there.
+fn reply_of(found: bool) -> BodyReply
+    ensures { result ≡ (if found then body_reply.Done else body_reply.Range) }
+{
+    if found {
+        BodyReply::Done
+    } else {
+        BodyReply::Range
+    }
+}
+
+/// Whether what `base` holds has so many data words from `first` on.
+pub(crate) fn find_words(heap: &LargeHeap, base: u8, first: u32, count: usize) -> BodyReply
+    requires { base < 16 }
+    ensures found { (h : List LargeItem) → IsHeapOf heap.now h → result ≡ comes_to (words_in (large_state h) base) first count }
+    ensures few { result ≡ body_reply.Done → first + count < 2 ^ 16 }
+{
+    match heap.shape(base) {
+        None => BodyReply::Bad,
+        Some((shape, _)) => reply_of(has_all(shape.values, first, count)),
+    }
+}
+
+/// Whether what `base` holds has so many references from `first` on.
+pub(crate) fn find_references(heap: &LargeHeap, base: u8, first: u32, count: usize) -> BodyReply
+    requires { base < 16 }
+    ensures found { (h : List LargeItem) → IsHeapOf heap.now h → result ≡ comes_to (references_in (large_state h) base) first count }
+    ensures few { result ≡ body_reply.Done → first + count < 2 ^ 16 }
+{
+    match heap.shape(base) {
+        None => BodyReply::Bad,
+        Some((shape, _)) => reply_of(has_all(shape.refs, first, count)),
+    }
+}
+
+/// Whether these are registers.
+fn are_registers(registers: &[u32]) -> bool
+    ensures { result ≡ fields.are_registers registers.now }
+{
+    registers.iter().all(|register| *register < 16)
+}
+
+/// The base of stores from these registers.
+pub(crate) fn base_of_stores(base: u32, sources: &[u32]) -> Result<u8, Code>
+    ensures base { result ≡ fields.base_of_stores base sources.now }
+    ensures small { IfOk result (λ b. b < 16) }
+    ensures sources { IfOk result (λ b. IsTrue (fields.are_registers sources.now)) }
+{
+    if !are_registers(sources) {
+        return Err(Code::Register);
+    }
+    register_of(base)
+}
+
+/// Whether none of these registers but the last is the base.
+fn leave_base(base: u32, targets: &[u32]) -> bool
+    ensures { result ≡ fields.leave_base base targets.now }
+{
+    let others = &targets[..targets.len().saturating_sub(1)];
+    others.iter().all(|target| *target != base)
+}
+
+/// The base of loads to these registers.
+pub(crate) fn base_of_loads(base: u32, targets: &[u32]) -> Result<u8, Code>
+    ensures base { result ≡ fields.base_of_loads base targets.now }
+    ensures small { IfOk result (λ b. b < 16) }
+    ensures targets { IfOk result (λ b. IsTrue (fields.are_registers targets.now)) }
+    ensures apart { IfOk result (λ b. IsTrue (fields.leave_base b targets.now)) }
+{
+    if !are_registers(targets) {
+        return Err(Code::Register);
+    }
+    if !leave_base(base, targets) {
+        return Err(Code::Register);
+    }
+    register_of(base)
+}

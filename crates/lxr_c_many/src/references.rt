@@ -1,0 +1,116 @@
+//! References of an object in a row.
+ghost use Rattle.std.specs.Prelude.{◌≡◌, ◌+◌, ◌<◌, ◌^◌, IsTrue, List, length};
+ghost use Rattle.lxr_large_model.specs.History.{LargeItem, large_state};
+ghost use Rattle.lxr_heap.specs.Holding.{IsHeapOf};
+ghost use Rattle.lxr_c_heap.specs.Hosting.{IsHostOf, IsServing};
+ghost use Rattle.lxr_c_many.specs.Calling.{Does, LoadsReferences, StoresReferences};
+ghost use Rattle.lxr_c_many.specs.Fields as fields;
+ghost use Rattle.lxr_c_many.specs.Fields.{are_registers, leave_base, load_of, store_of};
+ghost use Rattle.lxr_c_many.specs.Following.{Follows, newest_first};
+ghost use Rattle.lxr_c_many.specs.Steps.{HasReferences, MayBeStored};
+
+use crate::fields::{base_of_loads, base_of_stores, find_references};
+use crate::log::pause_for_stores;
+use crate::steps::{load_at, store_at};
+use lxr_c_base::Code;
+use lxr_c_heap::{Handle, HostHeap};
+use lxr_heap::BodyReply;
+
+/// Loads references, where they are all there.
+fn load_all(heap: &mut HostHeap, base: u8, first: u16, targets: &[u32])
+    requires serving { IsServing heap.old }
+    requires base { base < 16 }
+    requires few { first + length targets.now < 2 ^ 16 }
+    requires targets { IsTrue (are_registers targets.now) }
+    requires apart { IsTrue (leave_base base targets.now) }
+    ensures follows { (h : List LargeItem) → IsHeapOf heap.old.heap h → HasReferences (large_state h) base (first + length targets.now)
+        → Follows heap.old h heap.new (newest_first (load_of (large_state h) base) first targets.now) }
+    ensures serving { IsServing heap.new }
+{
+    for (i, target) in targets.iter().enumerate() {
+        load_at(heap, *target as u8, base, first + i as u16);
+    }
+}
+
+/// Stores to references, on the condition that they are all there and that the log has room for what this records.
+pub(crate) fn store_all(heap: &mut HostHeap, base: u8, first: u16, sources: &[u32])
+    requires serving { IsServing heap.old }
+    requires base { base < 16 }
+    requires few { first + length sources.now < 2 ^ 16 }
+    requires sources { IsTrue (are_registers sources.now) }
+    requires ready { ∥ ((h : List LargeItem) × IsHeapOf heap.old.heap h × MayBeStored h base first (length sources.now)) ∥₁ }
+    ensures follows { (h : List LargeItem) → IsHeapOf heap.old.heap h → MayBeStored h base first (length sources.now)
+        → Follows heap.old h heap.new (newest_first (store_of base) first sources.now) }
+    ensures serving { IsServing heap.new }
+{
+    for (i, source) in sources.iter().enumerate() {
+        store_at(heap, base, first + i as u16, *source as u8);
+    }
+}
+
+/// Loads references of what `base` holds, from `first` on: all of them or none.
+fn load(heap: &mut HostHeap, base: u8, first: u32, targets: &[u32]) -> BodyReply
+    requires serving { IsServing heap.old }
+    requires base { base < 16 }
+    requires targets { IsTrue (are_registers targets.now) }
+    requires apart { IsTrue (leave_base base targets.now) }
+    ensures loads { (h : List LargeItem) → IsHeapOf heap.old.heap h → LoadsReferences first targets.now heap.old heap.new h base result }
+    ensures serving { IsServing heap.new }
+{
+    match find_references(&heap.heap, base, first, targets.len()) {
+        BodyReply::Done => {
+            load_all(heap, base, first as u16, targets);
+            BodyReply::Done
+        }
+        refused => refused,
+    }
+}
+
+/// Stores to references of what `base` holds, from `first` on: all of them or none. A pause is made before them where the log has no room.
+fn store(heap: &mut HostHeap, base: u8, first: u32, sources: &[u32]) -> BodyReply
+    requires serving { IsServing heap.old }
+    requires base { base < 16 }
+    requires sources { IsTrue (are_registers sources.now) }
+    ensures stores { (h : List LargeItem) → IsHostOf heap.old h → StoresReferences first sources.now heap.old heap.new h base result }
+    ensures serving { IsServing heap.new }
+{
+    match find_references(&heap.heap, base, first, sources.len()) {
+        BodyReply::Done => {
+            if sources.is_empty() {
+                return BodyReply::Done;
+            }
+            pause_for_stores(heap, base, first as u16, sources.len() as u16);
+            store_all(heap, base, first as u16, sources);
+            BodyReply::Done
+        }
+        refused => refused,
+    }
+}
+
+/// Registers get references of the object that `base` holds, from `first` on: all of them or none.
+pub fn load_many(
+    handle: &mut Handle,
+    base: u32,
+    first: u32,
+    targets: &[u32],
+) -> Result<BodyReply, Code>
+    ensures { Does (LoadsReferences first targets.now) handle.old.block.value handle.new.block.value (fields.base_of_loads base targets.now) result }
+{
+    handle.found()?;
+    let base = base_of_loads(base, targets)?;
+    Ok(load(handle.block.lend(), base, first, targets))
+}
+
+/// References of the object that `base` holds, from `first` on, become what registers hold: all of them or none.
+pub fn store_many(
+    handle: &mut Handle,
+    base: u32,
+    first: u32,
+    sources: &[u32],
+) -> Result<BodyReply, Code>
+    ensures { Does (StoresReferences first sources.now) handle.old.block.value handle.new.block.value (fields.base_of_stores base sources.now) result }
+{
+    handle.found()?;
+    let base = base_of_stores(base, sources)?;
+    Ok(store(handle.block.lend(), base, first, sources))
+}
