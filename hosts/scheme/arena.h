@@ -9,7 +9,11 @@
 /* Zeros, aligned for anything. */
 void *arena_take(size_t bytes);
 
-/* Lets go of all that was taken. */
+/* The same, which stays until the end. */
+void *arena_keep(size_t bytes);
+
+/* Lets go of all that was taken and isn't kept. */
 void arena_clear(void);
+void arena_close(void);
 
 #endif

@@ -7,11 +7,15 @@
 #include <stdlib.h>
 #include <string.h>
 
+static jmp_buf raised; /* where a fault goes to, of which a handler learns */
+static char fault_text[1024];
+
 /* The table has entries of its own, and behind them parts with further entries. */
 enum { TABLE_PARTS = 16, TABLE_OWN = OBJECT_MOST - TABLE_PARTS, TABLE_MOST = TABLE_OWN + TABLE_PARTS * OBJECT_MOST };
 
-/* Word 0 of a frame: where to go on, which registers stand behind it, and which one gets the result. */
-enum { FRAME_REGISTERS_SHIFT = 32, FRAME_RESULT_SHIFT = 48, FRAME_BEFORE = 0 };
+/* Word 0 of a frame: where to go on, which registers stand behind it, and which one gets the result. Its last reference is the frame
+ * before: a return loads it into the frame's own register, behind all others. */
+enum { FRAME_REGISTERS_SHIFT = 32, FRAME_RESULT_SHIFT = 48 };
 
 /* Makes room for one more in an array. */
 #define GROW(array, count, room) \
@@ -29,12 +33,14 @@ Position machine_position(const Machine *machine) {
 
 void machine_fault(const Machine *machine, const char *format, ...) {
     va_list arguments;
-    fault_begin(machine_position(machine));
     va_start(arguments, format);
-    vfprintf(stderr, format, arguments);
+    vsnprintf(fault_text, sizeof fault_text, format, arguments);
     va_end(arguments);
-    fault_end();
+    if (machine->table[machine->state] != EMPTY_LIST) longjmp(raised, 1);
+    fault(machine_position(machine), "%s", fault_text);
 }
+
+void machine_full(const Machine *machine) { fault(machine_position(machine), "the heap is full"); }
 
 size_t machine_add_instruction(Machine *machine, Instruction instruction, Position at) {
     if (machine->instruction_count == machine->instruction_room) {
@@ -75,6 +81,12 @@ unsigned machine_add_entry(Machine *machine, Symbol name) {
     machine->table[machine->table_count] = UNDEFINED;
     machine->table_names[machine->table_count] = name;
     return (unsigned)machine->table_count++;
+}
+
+unsigned machine_add_record(Machine *machine, RecordType type) {
+    GROW(machine->records, machine->record_count, machine->record_room);
+    machine->records[machine->record_count] = type;
+    return (unsigned)machine->record_count++;
 }
 
 unsigned machine_constant(Machine *machine, Word word) {
@@ -132,6 +144,7 @@ void machine_close(Machine *machine) {
     free(machine->instructions);
     free(machine->positions);
     free(machine->codes);
+    free(machine->records);
     free(machine->words);
     free(machine->table);
     free(machine->table_names);
@@ -140,21 +153,17 @@ void machine_close(Machine *machine) {
 
 /* A call begins: what is needed after it goes into a frame. */
 static void push_frame(Machine *machine, uint64_t resume, unsigned needed, unsigned result) {
-    unsigned references = 1, words = 1;
+    uint32_t sources[REGISTERS];
+    Word data[REGISTERS + 1];
+    size_t references = 0, words = 0;
+    data[words++] = resume | (uint64_t)needed << FRAME_REGISTERS_SHIFT | (uint64_t)result << FRAME_RESULT_SHIFT;
     for (unsigned left = needed; left; left &= left - 1) {
         const unsigned saved = (unsigned)__builtin_ctz(left);
-        references += is_reference(machine->word[saved]);
-        words++;
+        data[words++] = machine->word[saved];
+        if (is_reference(machine->word[saved])) sources[references++] = saved;
     }
-    machine_new(machine, REGISTER_SCRATCH, references, words);
-    memory_store(REGISTER_SCRATCH, FRAME_BEFORE, REGISTER_FRAME);
-    memory_put(REGISTER_SCRATCH, 0, resume | (uint64_t)needed << FRAME_REGISTERS_SHIFT | (uint64_t)result << FRAME_RESULT_SHIFT);
-    references = words = 1;
-    for (unsigned left = needed; left; left &= left - 1) {
-        const unsigned saved = (unsigned)__builtin_ctz(left);
-        memory_put(REGISTER_SCRATCH, words++, machine->word[saved]);
-        if (is_reference(machine->word[saved])) memory_store(REGISTER_SCRATCH, references++, saved);
-    }
+    sources[references++] = REGISTER_FRAME;
+    machine_new_with(machine, REGISTER_SCRATCH, sources, references, data, words);
     memory_move(REGISTER_FRAME, REGISTER_SCRATCH);
     machine->holding |= 1u << REGISTER_SCRATCH;
 }
@@ -162,18 +171,22 @@ static void push_frame(Machine *machine, uint64_t resume, unsigned needed, unsig
 /* A call ends with what a register holds: its frame's registers are as they were. Answers where to go on. */
 static uint32_t pop_frame(Machine *machine, unsigned source) {
     const uint64_t word = memory_get(REGISTER_FRAME, 0);
-    unsigned references = 1, words = 1;
+    const unsigned saved_registers = (unsigned)(word >> FRAME_REGISTERS_SHIFT) & 0xffffu;
+    uint32_t loaded[REGISTERS];
+    Word data[REGISTERS];
+    size_t references = 0, words = 0;
     machine_move(machine, REGISTER_SCRATCH, source);
-    for (unsigned left = (unsigned)(word >> FRAME_REGISTERS_SHIFT) & 0xffffu; left; left &= left - 1) {
+    if (saved_registers) memory_get_many(REGISTER_FRAME, 1, data, (size_t)__builtin_popcount(saved_registers));
+    for (unsigned left = saved_registers; left; left &= left - 1) {
         const unsigned saved = (unsigned)__builtin_ctz(left);
-        machine->word[saved] = memory_get(REGISTER_FRAME, words++);
-        if (is_reference(machine->word[saved])) {
-            memory_load(saved, REGISTER_FRAME, references++);
-            machine->holding |= 1u << saved;
-        }
+        machine->word[saved] = data[words++];
+        if (!is_reference(machine->word[saved])) continue;
+        loaded[references++] = saved;
+        machine->holding |= 1u << saved;
     }
+    loaded[references++] = REGISTER_FRAME;
+    memory_load_many(REGISTER_FRAME, 0, loaded, references);
     machine_move(machine, (unsigned)(word >> FRAME_RESULT_SHIFT), REGISTER_SCRATCH);
-    memory_load(REGISTER_FRAME, REGISTER_FRAME, FRAME_BEFORE);
     return (uint32_t)word;
 }
 
@@ -209,9 +222,24 @@ __attribute__((noreturn)) static void fault_arguments(const Machine *machine, co
 
 __attribute__((noreturn)) static void fault_procedure(const Machine *machine) {
     static const char *const what[] = {
-        [KIND_INTEGER] = "an integer", [KIND_CONSTANT] = "a constant", [KIND_CHARACTER] = "a character", [KIND_SYMBOL] = "a symbol",
-        [KIND_PAIR] = "a pair",        [KIND_VECTOR] = "a vector",     [KIND_STRING] = "a string"};
+        [KIND_INTEGER] = "an integer",    [KIND_CONSTANT] = "a constant", [KIND_CHARACTER] = "a character", [KIND_SYMBOL] = "a symbol",
+        [KIND_PAIR] = "a pair",           [KIND_VECTOR] = "a vector",     [KIND_STRING] = "a string",       [KIND_RECORD] = "a record",
+        [KIND_VALUES] = "several values", [KIND_PORT] = "a port",         [KIND_REAL] = "a number"};
     machine_fault(machine, "%s was called, which is no procedure", what[kind_of(machine->word[REGISTER_PROCEDURE])]);
+}
+
+static size_t call(Machine *machine, unsigned arguments);
+
+/* A continuation gets a value. Where it leaves dynamic states or enters some, the prelude does what is to be done on the way. */
+static size_t go_on(Machine *machine) {
+    if (machine->word[REGISTER_PROCEDURE] == CONTINUATION && machine->table[machine->state] == EMPTY_LIST) {
+        memory_move(REGISTER_FRAME, REGISTER_PROCEDURE);
+        return pop_frame(machine, REGISTER_FIRST);
+    }
+    machine_move(machine, REGISTER_FIRST + 1, REGISTER_FIRST);
+    machine_move(machine, REGISTER_FIRST, REGISTER_PROCEDURE);
+    table_get(machine, REGISTER_PROCEDURE, machine->go_on);
+    return call(machine, 2);
 }
 
 /* Calls the procedure with arguments in the first registers. Answers where to go on. */
@@ -229,9 +257,11 @@ static size_t call(Machine *machine, unsigned arguments) {
         return code->entry;
     }
     if (kind_of(procedure) != KIND_CONTINUATION) fault_procedure(machine);
-    if (arguments != 1) machine_fault(machine, "a continuation takes 1 argument, and was given %u", arguments);
-    memory_move(REGISTER_FRAME, REGISTER_PROCEDURE);
-    return pop_frame(machine, REGISTER_FIRST);
+    if (arguments != 1) {
+        collect_rest(machine, 0, arguments);
+        values_of_list(machine, REGISTER_FIRST, REGISTER_FIRST);
+    }
+    return go_on(machine);
 }
 
 /* Puts the items of a list into the first registers, as far as there are parameters; what is left is the rest parameter. */
@@ -251,10 +281,9 @@ static void spread_list(Machine *machine, const Code *code) {
 
 /* Calls the procedure with a list of arguments. Answers where to go on. */
 static size_t apply(Machine *machine) {
-    static const Code continuation = {.parameters = 1};
     const Word procedure = machine->word[REGISTER_PROCEDURE];
     if (kind_of(procedure) != KIND_PROCEDURE) {
-        if (kind_of(procedure) == KIND_CONTINUATION) spread_list(machine, &continuation);
+        if (kind_of(procedure) == KIND_CONTINUATION) values_of_list(machine, REGISTER_FIRST, REGISTER_FIRST);
         return call(machine, 1);
     }
     const Code *const code = &machine->codes[payload(procedure)];
@@ -266,9 +295,9 @@ static size_t apply(Machine *machine) {
 static void make_pair(Machine *machine, unsigned dest, unsigned first, unsigned second) {
     const bool is_direct = dest != first && dest != second;
     const unsigned pair = is_direct ? dest : REGISTER_SCRATCH;
-    machine_new(machine, pair, 2, 2);
-    machine_begin(machine, pair, 0, first);
-    machine_begin(machine, pair, 1, second);
+    const uint32_t sources[] = {machine_source(machine, first), machine_source(machine, second)};
+    const Word data[] = {machine->word[first], machine->word[second]};
+    machine_new_with(machine, pair, sources, 2, data, 2);
     if (!is_direct) memory_move(dest, pair);
     machine_hold(machine, dest, PAIR);
 }
@@ -283,22 +312,62 @@ static int64_t modulo(int64_t dividend, int64_t divisor) {
     return rest && (rest < 0) != (divisor < 0) ? rest + divisor : rest;
 }
 
-__attribute__((noreturn)) static void fault_numbers(const Machine *machine, const char *name, Word left, Word right) {
-    if (!is_integer(left) || !is_integer(right)) machine_fault(machine, "%s: not an integer", name);
-    machine_fault(machine, "%s: integer overflow", name);
+/* Whether one integer can be divided by another, and the result is one of 62 bits. */
+static bool divides(Word left, Word right) {
+    return is_integer(left | right) && right != integer(0) && (right != integer(-1) || left != integer(INTEGER_LEAST));
 }
 
-/* What an integer is divided by; not 0. */
-static int64_t divisor_of(const Machine *machine, const char *name, Word left, Word right) {
-    if (!is_integer(left) || !is_integer(right)) fault_numbers(machine, name, left, right);
-    if (right == integer(0)) machine_fault(machine, "%s: division by zero", name);
-    return number(right);
+/* What returns to the frame: the frame alone, or where there is a dynamic state an object that has both. */
+static void make_continuation(Machine *machine, unsigned dest) {
+    if (machine->table[machine->state] == EMPTY_LIST) {
+        memory_move(dest, REGISTER_FRAME);
+        machine_hold(machine, dest, CONTINUATION);
+        return;
+    }
+    machine_new(machine, dest, 2, 2);
+    memory_store(dest, 0, REGISTER_FRAME);
+    table_get(machine, REGISTER_SCRATCH, machine->state);
+    machine_begin(machine, dest, 1, REGISTER_SCRATCH);
+    machine_hold(machine, dest, CONTINUATION_WITH_STATE);
+}
+
+static size_t resume(Machine *machine, unsigned continuation, unsigned source) {
+    if (machine->word[continuation] == CONTINUATION) {
+        memory_move(REGISTER_FRAME, continuation);
+    } else {
+        memory_load(REGISTER_FRAME, continuation, 0);
+    }
+    return pop_frame(machine, source);
 }
 
 static void make_slots(Machine *machine, unsigned dest, unsigned count) {
+    Word undefined[OBJECT_MOST];
     machine_new(machine, dest, count, count);
-    for (unsigned i = 0; i < count; i++) memory_put(dest, i, UNDEFINED);
+    for (unsigned i = 0; i < count; i++) undefined[i] = UNDEFINED;
+    memory_put_many(dest, 0, undefined, count);
     machine_hold(machine, dest, SLOTS);
+}
+
+/* Makes a procedure that captures values. Where these stand in registers, the next instructions say which, and it is made with them.
+ * Answers how many of those instructions are done. */
+static unsigned make_closure(Machine *machine, Instruction closure, const Instruction *next) {
+    uint32_t sources[REGISTERS];
+    Word data[REGISTERS];
+    unsigned known = 0;
+    for (; known < closure.b && known < REGISTERS; known++) {
+        const Instruction put = next[known];
+        if (put.op != OP_CLOSURE_PUT || put.a != closure.a || put.b == closure.a || put.n != (int32_t)known) break;
+        sources[known] = machine_source(machine, put.b);
+        data[known] = machine->word[put.b];
+    }
+    const bool is_whole = known == closure.b;
+    if (is_whole) {
+        machine_new_with(machine, closure.a, sources, known, data, known);
+    } else {
+        machine_new(machine, closure.a, closure.b, closure.b);
+    }
+    machine_hold(machine, closure.a, REFERENCE(KIND_PROCEDURE, closure.n));
+    return is_whole ? known : 0;
 }
 
 /* The instruction that runs is named before what may fault. */
@@ -310,24 +379,36 @@ static void make_slots(Machine *machine, unsigned dest, unsigned count) {
         if (!(condition)) next += i.n; \
     } while (0)
 
-#define TEST_NUMBERS(name, operator) \
+#define TEST_NUMBERS(op, operator) \
     do { \
-        if (!is_integer(word[i.a]) || !is_integer(word[i.b])) { \
+        if (is_integer(word[i.a] | word[i.b])) { \
+            TEST((int64_t)word[i.a] operator(int64_t) word[i.b]); \
+        } else { \
             AT(); \
-            fault_numbers(machine, name, word[i.a], word[i.b]); \
+            TEST(test_numbers(machine, op, i.a, i.b)); \
         } \
-        TEST((int64_t)word[i.a] operator(int64_t) word[i.b]); \
     } while (0)
 
 /* Sums of words are words of sums, as an integer's last two bits are 0. */
-#define COMPUTE(name, function, left, right) \
+#define COMPUTE(op, function, left, right) \
     do { \
         int64_t result; \
-        if (!is_integer(word[i.b] | word[i.c]) || function(left, right, &result)) { \
+        if (is_integer(word[i.b] | word[i.c]) && !function(left, right, &result)) { \
+            word[i.a] = (Word)result; \
+        } else { \
             AT(); \
-            fault_numbers(machine, name, word[i.b], word[i.c]); \
+            compute_numbers(machine, op, i.a, i.b, i.c); \
         } \
-        word[i.a] = (Word)result; \
+    } while (0)
+
+#define DIVIDE(op, result) \
+    do { \
+        if (divides(word[i.b], word[i.c])) { \
+            word[i.a] = integer(result); \
+        } else { \
+            AT(); \
+            divide_numbers(machine, op, i.a, i.b, i.c); \
+        } \
     } while (0)
 
 #define WANT(register, value, name, what) \
@@ -338,16 +419,9 @@ static void make_slots(Machine *machine, unsigned dest, unsigned count) {
         } \
     } while (0)
 
-void machine_run(Machine *machine, unsigned start) {
+__attribute__((noinline)) static void run(Machine *machine, size_t from) {
     Word *const word = machine->word;
-    const Instruction *next = machine->instructions;
-    machine->at = machine->called_at = machine->codes[start].entry;
-    machine->holding |= (1u << REGISTER_END) - (1u << REGISTER_PROCEDURE);
-    forget_others(machine, 0);
-    machine_new(machine, REGISTER_FRAME, 1, 1); /* it returns to the first instruction, which halts, with a result there */
-    memory_put(REGISTER_FRAME, 0, (uint64_t)REGISTER_FIRST << FRAME_RESULT_SHIFT);
-    word[REGISTER_PROCEDURE] = PLAIN(KIND_PROCEDURE, start);
-    next = machine->instructions + machine->codes[start].entry;
+    const Instruction *next = machine->instructions + from;
     for (;;) {
         const Instruction i = *next++;
         switch ((Opcode)i.op) {
@@ -362,8 +436,7 @@ void machine_run(Machine *machine, unsigned start) {
         case OP_CAPTURED: machine_load(machine, i.a, REGISTER_PROCEDURE, (unsigned)i.n); break;
         case OP_CLOSURE:
             AT();
-            machine_new(machine, i.a, i.b, i.b);
-            machine_hold(machine, i.a, REFERENCE(KIND_PROCEDURE, i.n));
+            next += make_closure(machine, i, next);
             break;
         case OP_CLOSURE_PUT: machine_begin(machine, i.a, (unsigned)i.n, i.b); break;
         case OP_SLOTS:
@@ -380,29 +453,21 @@ void machine_run(Machine *machine, unsigned start) {
         case OP_SLOT_SET: machine_store(machine, i.a, (unsigned)i.n, i.b); break;
         case OP_JUMP: next += i.n; break;
         case OP_UNLESS: TEST(word[i.a] != FALSE); break;
-        case OP_LESS: TEST_NUMBERS("<", <); break;
-        case OP_NOT_GREATER: TEST_NUMBERS("<=", <=); break;
-        case OP_NUMBERS_EQUAL: TEST_NUMBERS("=", ==); break;
+        case OP_LESS: TEST_NUMBERS(OP_LESS, <); break;
+        case OP_NOT_GREATER: TEST_NUMBERS(OP_NOT_GREATER, <=); break;
+        case OP_NUMBERS_EQUAL: TEST_NUMBERS(OP_NUMBERS_EQUAL, ==); break;
         case OP_SAME: TEST(are_same(machine, i.a, i.b)); break;
         case OP_IS: TEST(kind_of(word[i.a]) == (Kind)i.b); break;
-        case OP_ADD: COMPUTE("+", __builtin_add_overflow, (int64_t)word[i.b], (int64_t)word[i.c]); break;
-        case OP_SUBTRACT: COMPUTE("-", __builtin_sub_overflow, (int64_t)word[i.b], (int64_t)word[i.c]); break;
-        case OP_MULTIPLY: COMPUTE("*", __builtin_mul_overflow, number(word[i.b]), (int64_t)word[i.c]); break;
-        case OP_QUOTIENT: {
-            AT();
-            const int64_t quotient = number(word[i.b]) / divisor_of(machine, "quotient", word[i.b], word[i.c]);
-            if (quotient > INTEGER_MOST) fault_numbers(machine, "quotient", word[i.b], word[i.c]);
-            word[i.a] = integer(quotient);
-            break;
-        }
-        case OP_REMAINDER:
-            AT();
-            word[i.a] = integer(number(word[i.b]) % divisor_of(machine, "remainder", word[i.b], word[i.c]));
-            break;
-        case OP_MODULO:
-            AT();
-            word[i.a] = integer(modulo(number(word[i.b]), divisor_of(machine, "modulo", word[i.b], word[i.c])));
-            break;
+        case OP_EQUIVALENT: TEST(are_same(machine, i.a, i.b) || are_equivalent(machine, i.a, i.b)); break;
+        case OP_IS_NUMBER: TEST(is_integer(word[i.a]) || word[i.a] == REAL); break;
+        case OP_IS_WHOLE: TEST(is_whole_number(machine, i.a)); break;
+        case OP_RECORD_IS: TEST(word[i.a] == record_of_type(word[i.b])); break;
+        case OP_ADD: COMPUTE(OP_ADD, __builtin_add_overflow, (int64_t)word[i.b], (int64_t)word[i.c]); break;
+        case OP_SUBTRACT: COMPUTE(OP_SUBTRACT, __builtin_sub_overflow, (int64_t)word[i.b], (int64_t)word[i.c]); break;
+        case OP_MULTIPLY: COMPUTE(OP_MULTIPLY, __builtin_mul_overflow, number(word[i.b]), (int64_t)word[i.c]); break;
+        case OP_QUOTIENT: DIVIDE(OP_QUOTIENT, number(word[i.b]) / number(word[i.c])); break;
+        case OP_REMAINDER: DIVIDE(OP_REMAINDER, number(word[i.b]) % number(word[i.c])); break;
+        case OP_MODULO: DIVIDE(OP_MODULO, modulo(number(word[i.b]), number(word[i.c]))); break;
         case OP_CONS:
             AT();
             make_pair(machine, i.a, i.b, i.c);
@@ -452,9 +517,45 @@ void machine_run(Machine *machine, unsigned start) {
             break;
         case OP_RETURN: next = machine->instructions + pop_frame(machine, i.a); break;
         case OP_CONTINUATION:
-            memory_move(i.a, REGISTER_FRAME);
-            machine_hold(machine, i.a, CONTINUATION);
+            AT();
+            make_continuation(machine, i.a);
             break;
+        case OP_RESUME: next = machine->instructions + resume(machine, i.a, i.b); break;
         }
     }
+}
+
+/* Code begins, with nothing that it would return to but the end. Answers where it does. */
+static size_t begin(Machine *machine, unsigned start) {
+    machine->at = machine->called_at = machine->codes[start].entry;
+    machine->holding |= (1u << REGISTER_END) - (1u << REGISTER_PROCEDURE);
+    forget_others(machine, 0);
+    machine_new(machine, REGISTER_FRAME, 1, 1); /* it returns to the first instruction, which halts, with a result there */
+    memory_put(REGISTER_FRAME, 0, (uint64_t)REGISTER_FIRST << FRAME_RESULT_SHIFT);
+    machine->word[REGISTER_PROCEDURE] = PLAIN(KIND_PROCEDURE, start);
+    return machine->codes[start].entry;
+}
+
+/* A handler learns of a fault: the prelude's procedure gets what would be told, and where. Answers where to go on. */
+static size_t raise_fault(Machine *machine) {
+    const Word at = position_word(machine_position(machine));
+    make_string_of(machine, REGISTER_FIRST, fault_text, strlen(fault_text));
+    machine_set(machine, REGISTER_FIRST + 1, at);
+    table_get(machine, REGISTER_PROCEDURE, machine->raise);
+    return call(machine, 2);
+}
+
+void machine_run(Machine *machine, unsigned start) {
+    if (setjmp(raised)) {
+        run(machine, raise_fault(machine));
+    } else {
+        run(machine, begin(machine, start));
+    }
+}
+
+void machine_reset(Machine *machine) {
+    machine->output = stdout;
+    memory_nil(REGISTER_NIL);
+    machine_set(machine, REGISTER_SCRATCH, EMPTY_LIST);
+    machine_set_entry(machine, machine->state, REGISTER_SCRATCH);
 }

@@ -27,7 +27,8 @@ enum {
     REGISTER_END = 15,
     REGISTERS = MEMORY_REGISTERS,
     OPERANDS = 256,
-    ARGUMENTS_MOST = 8
+    ARGUMENTS_MOST = 8,
+    RECORD_FIELDS_MOST = OBJECT_MOST + 1
 };
 
 typedef enum opcode {
@@ -48,8 +49,12 @@ typedef enum opcode {
     OP_NOT_GREATER,
     OP_NUMBERS_EQUAL,
     OP_SAME,
-    OP_IS,  /* a is of kind b */
-    OP_ADD, /* a becomes b + c */
+    OP_IS,         /* a is of kind b */
+    OP_RECORD_IS,  /* a is a record of type b */
+    OP_EQUIVALENT, /* as the same, but two real numbers of the same bits are too */
+    OP_IS_NUMBER,
+    OP_IS_WHOLE, /* a is a number without a fraction */
+    OP_ADD,      /* a becomes b + c */
     OP_SUBTRACT,
     OP_MULTIPLY,
     OP_QUOTIENT,
@@ -60,14 +65,15 @@ typedef enum opcode {
     OP_CDR,
     OP_SET_CAR, /* that of a becomes b */
     OP_SET_CDR,
-    OP_VECTOR_REF,  /* a becomes element c of b */
-    OP_VECTOR_SET,  /* element b of a becomes c */
-    OP_FUNCTION,    /* a becomes what function n (bits 0 to 15) makes of b, c and n (from bit 16 on) */
-    OP_FRAME,       /* a call begins that returns n instructions further, to a; registers b + 256 c are needed then */
-    OP_CALL,        /* call the procedure with b arguments */
-    OP_APPLY,       /* call the procedure with the list of arguments in the first register */
-    OP_RETURN,      /* return a */
-    OP_CONTINUATION /* a becomes what returns to the frame */
+    OP_VECTOR_REF,   /* a becomes element c of b */
+    OP_VECTOR_SET,   /* element b of a becomes c */
+    OP_FUNCTION,     /* a becomes what function n (bits 0 to 15) makes of b, c and n (from bit 16 on) */
+    OP_FRAME,        /* a call begins that returns n instructions further, to a; registers b + 256 c are needed then */
+    OP_CALL,         /* call the procedure with b arguments */
+    OP_APPLY,        /* call the procedure with the list of arguments in the first register */
+    OP_RETURN,       /* return a */
+    OP_CONTINUATION, /* a becomes what returns to the frame */
+    OP_RESUME        /* return b where continuation a says; what is to be done on the way is done */
 } Opcode;
 
 typedef struct instruction {
@@ -83,6 +89,12 @@ typedef struct code {
     Symbol name;
 } Code;
 
+/* A record's type; a field of a type is told by their numbers, `type * RECORD_FIELDS_MOST + field`. */
+typedef struct record_type {
+    Symbol name;
+    unsigned fields;
+} RecordType;
+
 typedef struct machine {
     Word word[OPERANDS];
     unsigned holding;  /* the registers that may hold an object */
@@ -94,12 +106,15 @@ typedef struct machine {
     size_t instruction_count, instruction_room;
     Code *codes;
     size_t code_count, code_room;
+    RecordType *records;
+    size_t record_count, record_room;
     Word *words; /* constants that aren't operands */
     size_t word_count, word_room;
     Word *table; /* words of the table */
     Symbol *table_names;
     size_t table_count, table_room;
-    char *text; /* bytes of strings that are worked on */
+    unsigned state, raise, go_on; /* entries of the table: the dynamic state, and the prelude's procedures for faults and continuations */
+    char *text;                   /* bytes of strings that are worked on */
     size_t text_room;
     FILE *output;
     int exit_status; /* -1 while the program goes on */
@@ -113,6 +128,7 @@ size_t machine_add_instruction(Machine *machine, Instruction instruction, Positi
 unsigned machine_add_code(Machine *machine, Code code);
 size_t machine_add_word(Machine *machine, Word word);
 unsigned machine_add_entry(Machine *machine, Symbol name);
+unsigned machine_add_record(Machine *machine, RecordType type);
 
 /* An entry of the table becomes what a register holds. */
 void machine_set_entry(Machine *machine, unsigned entry, unsigned source);
@@ -123,9 +139,15 @@ unsigned machine_constant(Machine *machine, Word word);
 /* Runs code without parameters to its end. */
 void machine_run(Machine *machine, unsigned code);
 
-/* Tells a fault of the instruction that runs. */
+/* Forgets what a program left that has ended in a fault. */
+void machine_reset(Machine *machine);
+
+/* A fault of the instruction that runs: an error object is raised, or where no handler is, the fault is told. */
 __attribute__((noreturn, format(printf, 2, 3))) void machine_fault(const Machine *machine, const char *format, ...);
 Position machine_position(const Machine *machine);
+
+/* Tells that the heap is full, of which no handler learns: it could make nothing. */
+__attribute__((noreturn)) void machine_full(const Machine *machine);
 
 /* A register becomes a word without a reference. */
 static inline void machine_set(Machine *machine, unsigned dest, Word word) { machine->word[dest] = word; }
@@ -154,6 +176,11 @@ static inline void machine_load(Machine *machine, unsigned dest, unsigned base, 
     }
 }
 
+/* The register that a field's reference is stored from: one that is nil, where the value has none. */
+static inline uint32_t machine_source(const Machine *machine, unsigned operand) {
+    return is_reference(machine->word[operand]) ? operand : REGISTER_NIL;
+}
+
 /* A field of a new object becomes a value. */
 static inline void machine_begin(const Machine *machine, unsigned base, unsigned field, unsigned source) {
     memory_put(base, field, machine->word[source]);
@@ -171,7 +198,12 @@ static inline void machine_store(Machine *machine, unsigned base, unsigned field
 }
 
 static inline void machine_new(const Machine *machine, unsigned dest, unsigned references, unsigned words) {
-    if (!memory_new(dest, references, words)) machine_fault(machine, "the heap is full");
+    if (!memory_new(dest, references, words)) machine_full(machine);
+}
+
+static inline void machine_new_with(const Machine *machine, unsigned dest, const uint32_t *sources, size_t references, const Word *data,
+                                    size_t words) {
+    if (!memory_new_with(dest, sources, references, data, words)) machine_fault(machine, "the heap is full");
 }
 
 #endif

@@ -68,6 +68,27 @@ static void define_itself(Machine *machine, const char *name, unsigned parameter
     run_text(machine, text, (size_t)length);
 }
 
+/* What the machine and the prelude know of each other: the dynamic state, errors, and two procedures. */
+static void define_state(Machine *machine) {
+    syntax_define("%state", EMPTY_LIST);
+    machine->state = syntax_entry("%state");
+    machine->raise = syntax_entry("%raise-fault");
+    machine->go_on = syntax_entry("%go-on");
+    syntax_define("%error", PLAIN(KIND_RECORD, machine_add_record(machine, (RecordType){.name = symbol_of("error", 5), .fields = 4})));
+    syntax_define("%output", STANDARD_OUTPUT);
+    syntax_define("%errors", STANDARD_ERROR);
+    syntax_define("%input", STANDARD_INPUT);
+    syntax_define("%end", END_OF_FILE);
+    syntax_define("%dot", PLAIN(KIND_CONSTANT, 6));
+}
+
+/* The procedure that returns a value where a continuation says. */
+static void define_resume(Machine *machine) {
+    const Instruction resume = {.op = OP_RESUME, .a = REGISTER_FIRST, .b = REGISTER_FIRST + 1};
+    const Code code = {.entry = machine_add_instruction(machine, resume, (Position){0}), .parameters = 2, .name = symbol_of("%resume", 7)};
+    syntax_define("%resume", PLAIN(KIND_PROCEDURE, machine_add_code(machine, code)));
+}
+
 /* The procedure that calls another with what returns to its own caller. */
 static void define_continuations(Machine *machine) {
     const Position nowhere = {0};
@@ -83,6 +104,7 @@ static void define_continuations(Machine *machine) {
 
 static void run_prelude(Machine *machine) {
     define_continuations(machine);
+    define_resume(machine);
     for (unsigned i = 0; i < primitive_count; i++) define_itself(machine, primitives[i].name, primitives[i].most);
     for (unsigned path = 0; syntax_path(path); path++) define_itself(machine, syntax_path(path), 1);
     for (size_t i = 0; prelude[i]; i++) run_text(machine, prelude[i], strlen(prelude[i]));
@@ -134,7 +156,10 @@ static void run_prompt(Machine *machine) {
     const bool is_terminal = isatty(STDIN_FILENO) && isatty(STDOUT_FILENO);
     char line[4096];
     fault_source("prompt");
-    if (setjmp(fault_exit)) machine->output = stdout;
+    if (setjmp(fault_exit)) {
+        machine_reset(machine);
+        syntax_define("%output", STANDARD_OUTPUT);
+    }
     forget_typed(&prompt);
     for (;;) {
         if (run_typed(machine, &prompt)) {
@@ -213,6 +238,7 @@ int main(int count, char **words) {
     if (setjmp(fault_exit)) return 1; /* the heap is too small for what is always there */
     machine_open(&machine);
     syntax_open(&machine);
+    define_state(&machine);
     run_prelude(&machine);
     int status = 0;
     if (options.file) {
@@ -226,7 +252,7 @@ int main(int count, char **words) {
         status = 1;
     }
     if (options.memory.pauses) memory_report(stderr);
-    arena_clear();
+    arena_close();
     syntax_close();
     machine_close(&machine);
     symbols_free();

@@ -35,6 +35,14 @@ void memory_move(unsigned dest, unsigned source);
 void memory_nil(unsigned dest);
 bool memory_same(unsigned left, unsigned right);
 
+/* A new object with its fields: what these registers hold, among which `dest` isn't, and these words. Whether there is room. */
+bool memory_new_with(unsigned dest, const uint32_t *sources, size_t references, const Word *data, size_t words);
+
+/* Many fields at once, from `first` on. The base may be the last of the registers that are loaded. */
+void memory_get_many(unsigned base, unsigned first, Word *into, size_t count);
+void memory_put_many(unsigned base, unsigned first, const Word *from, size_t count);
+void memory_load_many(unsigned base, unsigned first, const uint32_t *registers, size_t count);
+
 /* A new large object, whose words are 0. Whether there is room. */
 bool memory_big(unsigned dest, unsigned blocks);
 void memory_read(unsigned base, size_t index, Word *into, size_t count);

@@ -75,13 +75,27 @@ static bool is_done(lxr_code code) {
     return true;
 }
 
-bool memory_new(unsigned dest, unsigned references, unsigned words) {
-    const uint64_t bytes = HEADER_BYTES + FIELD_BYTES * ((uint64_t)references + words);
+/* A new object comes: the plain pause that is due before it, and its bytes. */
+static inline void count_new(size_t fields) {
+    const uint64_t bytes = HEADER_BYTES + FIELD_BYTES * (uint64_t)fields;
     if (bytes_left < bytes) pause_plainly();
     bytes_left = bytes_left < bytes ? 0 : bytes_left - bytes;
+}
+
+bool memory_new(unsigned dest, unsigned references, unsigned words) {
+    count_new((size_t)references + words);
     if (!is_timed) return is_done(lxr_new(&heap, dest, references, words));
     const uint64_t began = pauses_clock();
     const lxr_code code = lxr_new(&heap, dest, references, words);
+    note_pauses(PAUSE_COLLECTING, began);
+    return is_done(code);
+}
+
+bool memory_new_with(unsigned dest, const uint32_t *sources, size_t references, const Word *data, size_t words) {
+    count_new(references + words);
+    if (!is_timed) return is_done(lxr_new_with(&heap, dest, sources, references, data, words));
+    const uint64_t began = pauses_clock();
+    const lxr_code code = lxr_new_with(&heap, dest, sources, references, data, words);
     note_pauses(PAUSE_COLLECTING, began);
     return is_done(code);
 }
@@ -101,6 +115,18 @@ Word memory_get(unsigned base, unsigned index) {
 }
 
 void memory_put(unsigned base, unsigned index, Word word) { want(lxr_put(&heap, base, index, word)); }
+
+void memory_get_many(unsigned base, unsigned first, Word *into, size_t count_of_words) {
+    want(lxr_get_many(&heap, base, first, into, count_of_words));
+}
+
+void memory_put_many(unsigned base, unsigned first, const Word *from, size_t count_of_words) {
+    want(lxr_put_many(&heap, base, first, from, count_of_words));
+}
+
+void memory_load_many(unsigned base, unsigned first, const uint32_t *registers, size_t count_of_references) {
+    want(lxr_load_many(&heap, base, first, registers, count_of_references));
+}
 
 void memory_move(unsigned dest, unsigned source) { want(lxr_move(&heap, dest, source)); }
 

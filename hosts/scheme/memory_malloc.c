@@ -49,6 +49,25 @@ void memory_nil(unsigned dest) { registers[dest] = NULL; }
 
 bool memory_same(unsigned left, unsigned right) { return registers[left] == registers[right]; }
 
+bool memory_new_with(unsigned dest, const uint32_t *sources, size_t references, const Word *data, size_t words) {
+    if (!make(dest, references, words)) return false;
+    for (size_t i = 0; i < references; i++) references_of(registers[dest])[i] = registers[sources[i]];
+    if (words) memcpy(words_of(registers[dest]), data, words * sizeof *data);
+    return true;
+}
+
+void memory_get_many(unsigned base, unsigned first, Word *into, size_t count) {
+    memcpy(into, words_of(registers[base]) + first, count * sizeof *into);
+}
+
+void memory_put_many(unsigned base, unsigned first, const Word *from, size_t count) {
+    memcpy(words_of(registers[base]) + first, from, count * sizeof *from);
+}
+
+void memory_load_many(unsigned base, unsigned first, const uint32_t *into, size_t count) {
+    for (size_t i = 0; i < count; i++) registers[into[i]] = references_of(registers[base])[first + i];
+}
+
 bool memory_big(unsigned dest, unsigned blocks) { return make(dest, 0, (size_t)blocks * BODY_BLOCK_WORDS); }
 
 void memory_read(unsigned base, size_t index, Word *into, size_t count) {

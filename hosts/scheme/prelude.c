@@ -13,7 +13,8 @@ const char *const prelude[] = {
     "(define (%fold step first rest) (if (null? rest) first (%fold step (step first (car rest)) (cdr rest))))",
     "(define (+ . xs) (%fold (lambda (a b) (+ a b)) 0 xs))",
     "(define (* . xs) (%fold (lambda (a b) (* a b)) 1 xs))",
-    "(define (- x . xs) (if (null? xs) (- 0 x) (%fold (lambda (a b) (- a b)) x xs)))",
+    "(define (- x . xs) (if (null? xs) (* -1 x) (%fold (lambda (a b) (- a b)) x xs)))",
+    "(define (/ x . xs) (if (null? xs) (/ 1 x) (%fold (lambda (a b) (/ a b)) x xs)))",
     "(define (min x . xs) (%fold (lambda (a b) (min a b)) x xs))",
     "(define (max x . xs) (%fold (lambda (a b) (max a b)) x xs))",
     "(define (bitwise-and . xs) (%fold (lambda (a b) (bitwise-and a b)) -1 xs))",
@@ -30,19 +31,37 @@ const char *const prelude[] = {
     "(define (char<? x . xs) (%ordered (lambda (a b) (char<? a b)) x xs))",
     "(define (string=? x . xs) (%ordered (lambda (a b) (string=? a b)) x xs))",
     "(define (string<? x . xs) (%ordered (lambda (a b) (string<? a b)) x xs))",
-    "(define (char>? a b) (char<? b a))",
-    "(define (char<=? a b) (not (char<? b a)))",
-    "(define (char>=? a b) (not (char<? a b)))",
-    "(define (string>? a b) (string<? b a))",
-    "(define (string<=? a b) (not (string<? b a)))",
-    "(define (string>=? a b) (not (string<? a b)))",
-    "(define (abs x) (if (< x 0) (- x) x))",
+    "(define (char>? x y . xs) (%ordered (lambda (a b) (char<? b a)) x (cons y xs)))",
+    "(define (char<=? x y . xs) (%ordered (lambda (a b) (not (char<? b a))) x (cons y xs)))",
+    "(define (char>=? x y . xs) (%ordered (lambda (a b) (not (char<? a b))) x (cons y xs)))",
+    "(define (string>? x y . xs) (%ordered (lambda (a b) (string<? b a)) x (cons y xs)))",
+    "(define (string<=? x y . xs) (%ordered (lambda (a b) (not (string<? b a))) x (cons y xs)))",
+    "(define (string>=? x y . xs) (%ordered (lambda (a b) (not (string<? a b))) x (cons y xs)))",
+    "(define (abs x) (if (< x 0) (- x) (+ x 0)))", /* -0.0 becomes 0.0 */
+    "(define (magnitude x) (abs x))",
     "(define (square x) (* x x))",
-    "(define (gcd a b) (if (= b 0) (abs a) (gcd b (remainder a b))))",
-    "(define (lcm a b) (if (= b 0) 0 (* (quotient (abs a) (gcd a b)) (abs b))))",
+    "(define (inexact? x) (not (exact? x)))",
+    "(define (infinite? x) (not (or (finite? x) (nan? x))))",
+    "(define (rational? x) (and (number? x) (finite? x)))",
+    "(define (%gcd a b) (if (= b 0) (abs a) (%gcd b (remainder a b))))",
+    "(define (gcd . xs) (%fold %gcd 0 xs))",
+    "(define (lcm . xs) (%fold (lambda (a b) (if (= b 0) b (* (quotient (abs a) (%gcd a b)) (abs b)))) 1 xs))",
+    "(define (floor-remainder a b) (modulo a b))",
+    "(define (floor-quotient a b) (quotient (- a (modulo a b)) b))",
+    "(define (floor/ a b) (values (floor-quotient a b) (modulo a b)))",
+    "(define (truncate-quotient a b) (quotient a b))",
+    "(define (truncate-remainder a b) (remainder a b))",
+    "(define (truncate/ a b) (values (quotient a b) (remainder a b)))",
+    "(define (exact-integer-sqrt x) (let ((root (%root x))) (values root (- x (* root root)))))",
+    "(define (log x . base) (log x (if (null? base) (if #f #f) (car base))))",
+    "(define (atan y . x) (atan y (if (null? x) (if #f #f) (car x))))",
     "(define (expt x n)"
-    "  (cond ((< n 0) (error \"expt: a negative exponent\" n)) ((= n 0) 1) ((even? n) (square (expt x (quotient n 2))))"
-    "        (else (* x (expt x (- n 1))))))",
+    "  (cond ((not (and (exact-integer? x) (exact-integer? n))) (%power x n))"
+    "        ((> n 0) (if (even? n) (square (expt x (quotient n 2))) (* x (expt x (- n 1)))))"
+    "        ((= n 0) 1)"
+    "        ((= (abs x) 1) (expt x (- n)))"
+    "        ((= x 0) (/ 1 x))"
+    "        (else (%power x n))))",
     "(define (number->string x . base) (number->string x (if (null? base) 10 (car base))))",
     "(define (string->number x . base) (string->number x (if (null? base) 10 (car base))))",
     /* lists */
@@ -59,13 +78,15 @@ const char *const prelude[] = {
     "(define (reverse x) (let turn ((x x) (turned '())) (if (null? x) turned (turn (cdr x) (cons (car x) turned)))))",
     "(define (list-tail x n) (if (= n 0) x (list-tail (cdr x) (- n 1))))",
     "(define (list-ref x n) (car (list-tail x n)))",
-    "(define (list-copy x) (%append x '()))",
+    "(define (list-copy x) (if (pair? x) (cons (car x) (list-copy (cdr x))) x))",
     "(define (memq a x) (cond ((null? x) #f) ((eq? a (car x)) x) (else (memq a (cdr x)))))",
-    "(define (memv a x) (memq a x))",
-    "(define (member a x) (cond ((null? x) #f) ((equal? a (car x)) x) (else (member a (cdr x)))))",
+    "(define (memv a x) (cond ((null? x) #f) ((eqv? a (car x)) x) (else (memv a (cdr x)))))",
+    "(define (%member same? a x) (cond ((null? x) #f) ((same? a (car x)) x) (else (%member same? a (cdr x)))))",
+    "(define (member a x . same?) (%member (if (null? same?) equal? (car same?)) a x))",
     "(define (assq a x) (cond ((null? x) #f) ((eq? a (caar x)) (car x)) (else (assq a (cdr x)))))",
-    "(define (assv a x) (assq a x))",
-    "(define (assoc a x) (cond ((null? x) #f) ((equal? a (caar x)) (car x)) (else (assoc a (cdr x)))))",
+    "(define (assv a x) (cond ((null? x) #f) ((eqv? a (caar x)) (car x)) (else (assv a (cdr x)))))",
+    "(define (%assoc same? a x) (cond ((null? x) #f) ((same? a (caar x)) (car x)) (else (%assoc same? a (cdr x)))))",
+    "(define (assoc a x . same?) (%assoc (if (null? same?) equal? (car same?)) a x))",
     "(define (%map f x) (if (null? x) '() (let ((y (f (car x)))) (cons y (%map f (cdr x))))))",
     "(define (%some-null? xs) (and (pair? xs) (or (null? (car xs)) (%some-null? (cdr xs)))))",
     "(define (map f x . xs)"
@@ -83,7 +104,7 @@ const char *const prelude[] = {
     "(define (fold-right f last x) (if (null? x) last (f (car x) (fold-right f last (cdr x)))))",
     "(define (apply f x . xs) (apply f (apply cons* x xs)))",
     "(define (equal? a b)"
-    "  (cond ((eq? a b) #t)"
+    "  (cond ((eqv? a b) #t)"
     "        ((pair? a) (and (pair? b) (equal? (car a) (car b)) (equal? (cdr a) (cdr b))))"
     "        ((string? a) (and (string? b) (string=? a b)))"
     "        ((vector? a)"
@@ -91,55 +112,329 @@ const char *const prelude[] = {
     "              (let next ((i 0))"
     "                (or (= i (vector-length a)) (and (equal? (vector-ref a i) (vector-ref b i)) (next (+ i 1)))))))"
     "        (else #f)))",
-    /* vectors */
+    /* vectors and strings, and ranges of them: all, or from a start, or from a start to an end */
+    "(define (%range name length range)"
+    "  (let ((end (if (or (null? range) (null? (cdr range))) length (%index name (car (cdr range)) length))))"
+    "    (cons (if (null? range) 0 (%index name (car range) end)) end)))",
+    "(define (%range->list ref x range)"
+    "  (let next ((i (- (cdr range) 1)) (y '())) (if (< i (car range)) y (next (- i 1) (cons (ref x i) y)))))",
     "(define (make-vector n . fill) (make-vector n (if (null? fill) 0 (car fill))))",
     "(define (list->vector x)"
     "  (let ((v (make-vector (length x))))"
     "    (let next ((x x) (i 0)) (if (null? x) v (begin (vector-set! v i (car x)) (next (cdr x) (+ i 1)))))))",
     "(define (vector . xs) (list->vector xs))",
-    "(define (vector->list v)"
-    "  (let next ((i (- (vector-length v) 1)) (x '())) (if (< i 0) x (next (- i 1) (cons (vector-ref v i) x)))))",
-    "(define (vector-fill! v x)"
-    "  (do ((i 0 (+ i 1))) ((= i (vector-length v))) (vector-set! v i x)))",
-    "(define (vector-copy v)"
-    "  (let ((w (make-vector (vector-length v))))"
-    "    (do ((i 0 (+ i 1))) ((= i (vector-length v)) w) (vector-set! w i (vector-ref v i)))))",
-    "(define (vector-map f v)"
-    "  (let ((w (make-vector (vector-length v))))"
-    "    (do ((i 0 (+ i 1))) ((= i (vector-length v)) w) (vector-set! w i (f (vector-ref v i))))))",
-    "(define (vector-for-each f v)"
-    "  (do ((i 0 (+ i 1))) ((= i (vector-length v))) (f (vector-ref v i))))",
-    /* strings */
+    "(define (vector->list v . range)"
+    "  (%range->list (lambda (v i) (vector-ref v i)) v (%range 'vector->list (vector-length v) range)))",
+    "(define (vector-fill! v x . range)"
+    "  (let ((range (%range 'vector-fill! (vector-length v) range)))"
+    "    (do ((i (car range) (+ i 1))) ((= i (cdr range))) (vector-set! v i x))))",
+    "(define (vector-copy v . range)"
+    "  (let* ((range (%range 'vector-copy (vector-length v) range)) (w (make-vector (- (cdr range) (car range)))))"
+    "    (do ((i (car range) (+ i 1))) ((= i (cdr range)) w) (vector-set! w (- i (car range)) (vector-ref v i)))))",
+    "(define (vector-map f v . vs)" /* no vector before the last element: a continuation may come back to any */
+    "  (if (null? vs)"
+    "      (let next ((i 0) (x '()))"
+    "        (if (= i (vector-length v)) (list->vector (reverse x)) (next (+ i 1) (cons (f (vector-ref v i)) x))))"
+    "      (list->vector (apply map f (vector->list v) (%map vector->list vs)))))",
+    "(define (vector-for-each f v . vs)"
+    "  (if (null? vs) (do ((i 0 (+ i 1))) ((= i (vector-length v))) (f (vector-ref v i)))"
+    "      (apply for-each f (vector->list v) (%map vector->list vs))))",
     "(define (make-string n . fill) (make-string n (if (null? fill) #\\space (car fill))))",
     "(define (substring s from . to) (substring s from (if (null? to) (string-length s) (car to))))",
-    "(define (string-copy s) (substring s 0))",
+    "(define (string-copy s . range) (apply substring s (if (null? range) '(0) range)))",
     "(define (string-append . xs) (%fold (lambda (a b) (string-append a b)) \"\" xs))",
     "(define (list->string x)"
     "  (let ((s (make-string (length x))))"
     "    (let next ((x x) (i 0)) (if (null? x) s (begin (string-set! s i (car x)) (next (cdr x) (+ i 1)))))))",
     "(define (string . xs) (list->string xs))",
-    "(define (string->list s)"
-    "  (let next ((i (- (string-length s) 1)) (x '())) (if (< i 0) x (next (- i 1) (cons (string-ref s i) x)))))",
+    "(define (string->list s . range)"
+    "  (%range->list (lambda (s i) (string-ref s i)) s (%range 'string->list (string-length s) range)))",
     /* output */
-    "(define (%write-rest x quoted?)"
-    "  (cond ((null? x) (write-char #\\)))"
-    "        ((pair? x) (write-char #\\space) (%write (car x) quoted?) (%write-rest (cdr x) quoted?))"
-    "        (else (write-char #\\space) (write-char #\\.) (write-char #\\space) (%write x quoted?) (write-char #\\)))))",
-    "(define (%write-vector v i quoted?)"
+    "(define (current-output-port . change)"
+    "  (cond ((null? change) %output) ((null? (cdr change)) (set! %output (car change))) (else (car change))))",
+    "(define (current-error-port) %errors)",
+    "(define (current-input-port) %input)",
+    "(define (textual-port? x) (port? x))",
+    "(define (write-char c . port) (write-char c (%output-of port)))",
+    "(define (%output-of port) (if (null? port) %output (car port)))",
+    /* Labels are a pair: the next number, and a list of what is to have one, each with its number where that is written. */
+    "(define (%label-of x labels)"
+    "  (cond ((null? labels) #f) ((eq? (car (car labels)) x) (car labels)) (else (%label-of x (cdr labels)))))",
+    "(define (%write-label label mark port)"
+    "  (write-char #\\# port) (%write-atom (cdr label) #f port) (write-char mark port))",
+    "(define (%write-rest x quoted? port labels)"
+    "  (cond ((null? x) (write-char #\\) port))"
+    "        ((and (pair? x) (not (%label-of x (cdr labels))))"
+    "         (write-char #\\space port) (%write (car x) quoted? port labels) (%write-rest (cdr x) quoted? port labels))"
+    "        (else (%write-atom \" . \" #f port) (%write x quoted? port labels) (write-char #\\) port))))",
+    "(define (%write-vector v i quoted? port labels)"
     "  (if (< i (vector-length v))"
-    "      (begin (if (> i 0) (write-char #\\space)) (%write (vector-ref v i) quoted?) (%write-vector v (+ i 1) quoted?))))",
-    "(define (%write x quoted?)"
-    "  (cond ((pair? x) (write-char #\\() (%write (car x) quoted?) (%write-rest (cdr x) quoted?))"
-    "        ((vector? x) (write-char #\\#) (write-char #\\() (%write-vector x 0 quoted?) (write-char #\\)))"
-    "        (else (%write-atom x quoted?))))",
-    "(define (write x) (%write x #t))",
-    "(define (display x) (%write x #f))",
-    "(define (newline) (write-char #\\newline))",
-    "(define (%write-line x) (if (not (eq? x (if #f #f))) (begin (write x) (newline))))",
-    /* control */
-    "(define (exit . status) (%exit (if (null? status) 0 (car status))))",
-    "(define (error message . irritants)"
-    "  (%begin-fault) (display message)"
-    "  (for-each (lambda (x) (write-char #\\space) (write x)) irritants) (%end-fault))",
+    "      (begin (if (> i 0) (write-char #\\space port)) (%write (vector-ref v i) quoted? port labels)"
+    "             (%write-vector v (+ i 1) quoted? port labels))))",
+    "(define (%write-whole x quoted? port labels)"
+    "  (cond ((pair? x)"
+    "         (write-char #\\( port) (%write (car x) quoted? port labels) (%write-rest (cdr x) quoted? port labels))"
+    "        ((vector? x)"
+    "         (%write-atom \"#(\" #f port) (%write-vector x 0 quoted? port labels) (write-char #\\) port))"
+    "        ((%record? x %error) (%write-atom \"#<error: \" #f port) (%write-error x port) (write-char #\\> port))"
+    "        (else (%write-atom x quoted? port))))",
+    "(define (%write x quoted? port labels)"
+    "  (let ((label (%label-of x (cdr labels))))"
+    "    (if (and label (cdr label)) (%write-label label #\\# port)"
+    "        (begin"
+    "          (if label"
+    "              (begin (set-cdr! label (car labels)) (set-car! labels (+ (car labels) 1)) (%write-label label #\\= port)))"
+    "          (%write-whole x quoted? port labels)))))",
+    /* Whether there is a way without an end: it comes back to a mark on it, which moves on at each depth that is twice the last. */
+    "(define (%endless? x mark depth twice)"
+    "  (cond ((not (or (pair? x) (vector? x))) #f)"
+    "        ((eq? x mark) #t)"
+    "        (else"
+    "         (let ((mark (if (= depth twice) x mark)) (twice (if (= depth twice) (* 2 twice) twice)) (depth (+ depth 1)))"
+    "           (if (pair? x) (or (%endless? (car x) mark depth twice) (%endless? (cdr x) mark depth twice))"
+    "               (%any-endless? x 0 mark depth twice))))))",
+    "(define (%any-endless? v i mark depth twice)"
+    "  (and (< i (vector-length v))"
+    "       (or (%endless? (vector-ref v i) mark depth twice) (%any-endless? v (+ i 1) mark depth twice))))",
+    /* Labels for what is met again. Meanwhile the first item of each pair and vector that is met is a pair of `met` or `again`, and of
+     * that item; `seen` is a pair of the list of these, at whose end each has its item again. */
+    "(define (%first x) (if (pair? x) (car x) (vector-ref x 0)))",
+    "(define (%set-first! x y) (if (pair? x) (set-car! x y) (vector-set! x 0 y)))",
+    "(define (%labels x)"
+    "  (let ((met (list 'met)) (again (list 'again)) (seen (list '())))"
+    "    (%meet x met again seen)"
+    "    (let next ((xs (car seen)) (labels '()))"
+    "      (if (null? xs) (cons 0 labels)"
+    "          (let ((first (%first (car xs))))"
+    "            (%set-first! (car xs) (cdr first))"
+    "            (next (cdr xs) (if (eq? (car first) again) (cons (cons (car xs) #f) labels) labels)))))))",
+    "(define (%meet x met again seen)"
+    "  (if (if (vector? x) (> (vector-length x) 0) (pair? x))"
+    "      (let ((first (%first x)))"
+    "        (if (and (pair? first) (or (eq? (car first) met) (eq? (car first) again))) (set-car! first again)"
+    "            (begin"
+    "              (%set-first! x (cons met first))"
+    "              (set-car! seen (cons x (car seen)))"
+    "              (%meet first met again seen)"
+    "              (if (pair? x) (%meet (cdr x) met again seen) (%meet-from x 1 met again seen)))))))",
+    "(define (%meet-from v i met again seen)"
+    "  (if (< i (vector-length v))"
+    "      (begin (%meet (vector-ref v i) met again seen) (%meet-from v (+ i 1) met again seen))))",
+    "(define (%write-ending x quoted? port) (%write x quoted? port (if (%endless? x #f 0 1) (%labels x) '(0))))",
+    "(define (write x . port) (%write-ending x #t (%output-of port)))",
+    "(define (display x . port) (%write-ending x #f (%output-of port)))",
+    "(define (write-shared x . port) (%write x #t (%output-of port) (%labels x)))",
+    "(define (write-simple x . port) (%write x #t (%output-of port) '(0)))",
+    "(define (newline . port) (write-char #\\newline (%output-of port)))",
+    "(define (write-string s . rest)"
+    "  (let ((port (%output-of rest)) (range (if (null? rest) rest (cdr rest))))"
+    "    (if (not (string? s)) (error \"write-string: not a string\"))"
+    "    (%write-atom (if (null? range) s (apply substring s range)) #f port)))",
+    "(define (flush-output-port . port) (if #f #f))",
+    "(define (%write-line x)"
+    "  (for-each (lambda (x) (if (not (eq? x (if #f #f))) (begin (%write-ending x #t %output) (newline)))) (%values->list x)))",
+    /* input */
+    "(define (read-char . port) (read-char (%input-of port)))",
+    "(define (peek-char . port) (peek-char (%input-of port)))",
+    "(define (read-line . port) (read-line (%input-of port)))",
+    "(define (read-string n . port) (read-string n (%input-of port)))",
+    "(define (char-ready? . port) #t)",
+    "(define (eof-object) %end)",
+    "(define (%input-of port) (if (null? port) %input (car port)))",
+    "(define (close-port port) (if #f #f))",
+    "(define (close-input-port port) (if #f #f))",
+    "(define (close-output-port port) (if #f #f))",
+    "(define (call-with-port port use) (use port))",
+    "(define (read . port)"
+    "  (let ((x (%read (%input-of port)))) (if (eq? x %dot) (%read-fault \"read: a dot where none can stand\") x)))",
+    "(define (%read-fault what) (%raise-error 'read what '()))",
+    "(define (%skip-line port)"
+    "  (let ((c (read-char port))) (if (not (or (eof-object? c) (char=? c #\\newline))) (%skip-line port))))",
+    "(define (%skip-block port depth before)"
+    "  (if (> depth 0)"
+    "      (let ((c (read-char port)))"
+    "        (cond ((eof-object? c) (%read-fault \"read: a comment without an end\"))"
+    "              ((and (eq? before #\\|) (eq? c #\\#)) (%skip-block port (- depth 1) #\\space))"
+    "              ((and (eq? before #\\#) (eq? c #\\|)) (%skip-block port (+ depth 1) #\\space))"
+    "              (else (%skip-block port depth c))))))",
+    /* what the next datum begins with, which is still to be read, but for a # */
+    "(define (%next port)"
+    "  (let ((c (peek-char port)))"
+    "    (cond ((eof-object? c) c)"
+    "          ((char-whitespace? c) (read-char port) (%next port))"
+    "          ((char=? c #\\;) (%skip-line port) (%next port))"
+    "          ((not (char=? c #\\#)) c)"
+    "          (else"
+    "           (read-char port)"
+    "           (case (peek-char port)"
+    "             ((#\\;) (read-char port) (%read-datum port) (%next port))"
+    "             ((#\\|) (read-char port) (%skip-block port 1 #\\space) (%next port))"
+    "             (else c))))))",
+    "(define (%read port) (%read-from (%next port) port))",
+    "(define (%read-datum port)"
+    "  (let ((x (%read port))) (if (eof-object? x) (%read-fault \"read: the end within a datum\") x)))",
+    "(define (%read-from c port)"
+    "  (cond ((or (eof-object? c) (char=? c #\\#)) (if (eof-object? c) c (%read-hash port)))"
+    "        ((not (memq c '(#\\( #\\) #\\' #\\` #\\, #\\\" #\\|))) (%token->datum (%read-token port '())))"
+    "        (else"
+    "         (read-char port)"
+    "         (case c"
+    "           ((#\\() (%read-items port '()))"
+    "           ((#\\)) (%read-fault \"read: a ) without a (\"))"
+    "           ((#\\') (list 'quote (%read-datum port)))"
+    "           ((#\\`) (list 'quasiquote (%read-datum port)))"
+    "           ((#\\,)"
+    "            (if (eq? (peek-char port) #\\@)"
+    "                (begin (read-char port) (list 'unquote-splicing (%read-datum port)))"
+    "                (list 'unquote (%read-datum port))))"
+    "           ((#\\\") (list->string (%read-text port #\\\" '())))"
+    "           (else (string->symbol (list->string (%read-text port #\\| '()))))))))",
+    "(define (%read-items port items)"
+    "  (let ((c (%next port)))"
+    "    (cond ((eof-object? c) (%read-fault \"read: a list without an end\"))"
+    "          ((char=? c #\\)) (read-char port) (reverse items))"
+    "          (else"
+    "           (let ((x (%read-from c port)))"
+    "             (cond ((not (eq? x %dot)) (%read-items port (cons x items)))"
+    "                   ((null? items) (%read-fault \"read: a dot where none can stand\"))"
+    "                   (else (%read-tail port items (%read-datum port)))))))))",
+    "(define (%read-tail port items tail)"
+    "  (if (not (eq? (%next port) #\\))) (%read-fault \"read: two data after a dot\"))"
+    "  (read-char port)"
+    "  (%append-reverse items tail))",
+    "(define (%append-reverse x tail) (if (null? x) tail (%append-reverse (cdr x) (cons (car x) tail))))",
+    "(define (%read-text port mark bytes)"
+    "  (let ((c (read-char port)))"
+    "    (cond ((eof-object? c) (%read-fault \"read: a string without an end\"))"
+    "          ((char=? c mark) (reverse bytes))"
+    "          ((char=? c #\\\\) (%read-text port mark (%read-escape (read-char port) port bytes)))"
+    "          (else (%read-text port mark (cons c bytes))))))",
+    "(define (%read-escape c port bytes)" /* what stands before it, and its character, where it has one */
+    "  (case c"
+    "    ((#\\n) (cons #\\newline bytes)) ((#\\t) (cons #\\tab bytes)) ((#\\r) (cons #\\return bytes))"
+    "    ((#\\a) (cons #\\alarm bytes)) ((#\\b) (cons #\\backspace bytes)) ((#\\\\ #\\\" #\\|) (cons c bytes))"
+    "    ((#\\x) (cons (%read-code (read-char port) port 0) bytes))"
+    "    (else (%skip-line-end c port) bytes)))",
+    "(define (%read-code c port code)"
+    "  (let ((digit (and (char? c) (string->number (string c) 16))))"
+    "    (cond ((and digit (< code 256)) (%read-code (read-char port) port (+ (* 16 code) digit)))"
+    "          ((and (eq? c #\\;) (< code 256)) (integer->char code))"
+    "          (else (%read-fault \"read: no such escape\")))))",
+    "(define (%skip-line-end c port)"
+    "  (cond ((eq? c #\\newline) (%skip-blanks port))"
+    "        ((memq c '(#\\space #\\tab)) (%skip-line-end (read-char port) port))"
+    "        (else (%read-fault \"read: no such escape\"))))",
+    "(define (%skip-blanks port)"
+    "  (if (memq (peek-char port) '(#\\space #\\tab)) (begin (read-char port) (%skip-blanks port))))",
+    "(define (%ends-token? c)"
+    "  (or (eof-object? c) (char-whitespace? c) (memq c '(#\\( #\\) #\\\" #\\; #\\' #\\` #\\, #\\|))))",
+    "(define (%read-token port bytes)"
+    "  (if (%ends-token? (peek-char port)) (list->string (reverse bytes)) (%read-token port (cons (read-char port) bytes))))",
+    "(define (%token->datum token)"
+    "  (cond ((string=? token \".\") %dot) ((string->number token))"
+    "        ((string->number (string-append token \"e0\")) (%read-fault \"read: an integer of more than 62 bits\"))"
+    "        (else (string->symbol token))))",
+    "(define (%read-hash port)"
+    "  (case (peek-char port)"
+    "    ((#\\() (read-char port) (list->vector (%read-items port '())))"
+    "    ((#\\\\) (read-char port) (%read-named port (list (read-char port))))"
+    "    (else (%hash->datum (%read-token port '(#\\#))))))",
+    "(define (%read-named port first)"
+    "  (if (eof-object? (car first)) (%read-fault \"read: a character without a name\"))"
+    "  (or (%named-character (%read-token port first)) (%read-fault \"read: no such character\")))",
+    "(define (%hash->datum token)"
+    "  (cond ((member token '(\"#t\" \"#true\")) #t) ((member token '(\"#f\" \"#false\")) #f) ((string->number token))"
+    "        (else (%read-fault \"read: unknown after #\"))))",
+    /* several values */
+    "(define (values . xs) (%list->values xs))",
+    "(define (call-with-values make use) (apply use (%values->list (make))))",
+    "(define (%want-count x n rest?)"
+    "  (let ((count (length x)))"
+    "    (if (if rest? (< count n) (not (= count n))) (error \"a wrong number of values\"))"
+    "    x))",
+    /* The dynamic state is a list, the innermost first: a pair of `dynamic-wind`, a handler, or a vector where a handler runs, of the state
+     * in which other handlers are looked for, and of the position of what it handles. */
+    "(define (%rewind to)"
+    "  (if (not (eq? to %state))"
+    "      (let ((common (%common %state (length %state) to (length to)))) (%unwind common) (%wind to common))))",
+    "(define (%common a m b n)"
+    "  (cond ((> m n) (%common (cdr a) (- m 1) b n)) ((< m n) (%common a m (cdr b) (- n 1))) ((eq? a b) a)"
+    "        (else (%common (cdr a) (- m 1) (cdr b) (- n 1)))))",
+    "(define (%unwind to)"
+    "  (if (not (eq? %state to))"
+    "      (let ((inner (car %state)))"
+    "        (set! %state (cdr %state))"
+    "        (if (pair? inner) ((cdr inner)))"
+    "        (%unwind to))))",
+    "(define (%wind to from)"
+    "  (if (not (eq? to from))"
+    "      (begin (%wind (cdr to) from) (if (pair? (car to)) ((caar to))) (set! %state to))))",
+    "(define (%go-on k x) (%rewind (%continuation-state k)) (%resume k x))",
+    "(define (%within inner thunk)"
+    "  (let ((outer %state))"
+    "    (set! %state (cons inner outer))"
+    "    (let ((x (thunk))) (set! %state outer) x)))",
+    "(define (dynamic-wind before thunk after) (before) (let ((x (%within (cons before after) thunk))) (after) x))",
+    /* A parameter of no arguments answers its value; one argument becomes its value, and with a second is only converted. */
+    "(define (make-parameter value . convert)"
+    "  (let* ((convert (if (null? convert) (lambda (x) x) (car convert))) (value (convert value)))"
+    "    (lambda change"
+    "      (cond ((null? change) value) ((null? (cdr change)) (set! value (car change))) (else (convert (car change)))))))",
+    "(define (%parameterize others thunk)"
+    "  (let* ((converted (%map (lambda (x) (cons (car x) ((car x) (cdr x) #t))) others))"
+    "         (swap (lambda () (for-each (lambda (x) (let ((old ((car x)))) ((car x) (cdr x)) (set-cdr! x old))) converted))))"
+    "    (dynamic-wind swap thunk swap)))",
+    "(define-syntax parameterize"
+    "  (syntax-rules () ((_ ((parameter value) ...) body ...)"
+    "                    (%parameterize (list (cons parameter value) ...) (lambda () body ...)))))",
+    /* exceptions */
+    "(define (with-exception-handler handler thunk)"
+    "  (if (procedure? handler) (%within handler thunk) (error \"with-exception-handler: not a procedure\")))",
+    "(define (%handlers state)"
+    "  (cond ((null? state) state) ((pair? (car state)) (%handlers (cdr state)))"
+    "        ((vector? (car state)) (%handlers (vector-ref (car state) 0))) (else state)))",
+    "(define (%raise x at continues?)"
+    "  (let ((handlers (%handlers %state)) (outer %state))"
+    "    (if (null? handlers) (%tell x at))"
+    "    (set! %state (cons (vector (cdr handlers) at) outer))"
+    "    (let ((y ((car handlers) x)))"
+    "      (if (not continues?) (%raise (%make-error 'error \"a handler returned, and nothing goes on after:\" (list x) at) at #f))"
+    "      (set! %state outer)"
+    "      y)))",
+    "(define (raise x) (%raise x (%position) #f))",
+    "(define (raise-continuable x) (%raise x (%position) #t))",
+    "(define (%raised-at state) (if (vector? (car state)) (vector-ref (car state) 1) (%raised-at (cdr state))))",
+    "(define (%guard body handle)"
+    "  ((call/cc"
+    "    (lambda (out)"
+    "      (with-exception-handler"
+    "       (lambda (x)"
+    "         ((call/cc"
+    "           (lambda (back)"
+    "             (out (lambda () (handle x (lambda () (back (lambda () (%raise x (%raised-at %state) #t)))))))))))"
+    "       (lambda () (let ((x (body))) (lambda () x))))))))",
+    "(define (%make-error kind message irritants at)"
+    "  (let ((e (%record-new 0)))"
+    "    (%record-set! e 0 message) (%record-set! e 1 irritants) (%record-set! e 2 at) (%record-set! e 3 kind)"
+    "    e))",
+    "(define (%raise-error kind message irritants)"
+    "  (%raise (%make-error kind message irritants (%position)) (%position) #f))",
+    "(define (error message . irritants) (%raise-error 'error message irritants))",
+    "(define (%raise-fault message at) (%raise (%make-error 'fault message '() at) at #f))",
+    "(define (error-object? x) (%record? x %error))",
+    "(define (error-object-message e) (%record-ref e 0))",
+    "(define (error-object-irritants e) (%record-ref e 1))",
+    "(define (read-error? x) (and (error-object? x) (eq? (%record-ref x 3) 'read)))",
+    "(define (file-error? x) #f)",
+    "(define (%write-error e port)"
+    "  (%write-ending (error-object-message e) #f port)"
+    "  (for-each (lambda (x) (write-char #\\space port) (%write-ending x #t port)) (error-object-irritants e)))",
+    "(define (%tell x at)"
+    "  (if (error-object? x) (begin (%begin-fault (%record-ref x 2)) (%write-error x %errors))"
+    "      (begin (%begin-fault at) (%write-atom \"not caught: \" #f %errors) (%write-ending x #t %errors)))"
+    "  (%end-fault))",
+    "(define (emergency-exit . status)"
+    "  (%exit (cond ((or (null? status) (eq? (car status) #t)) 0) ((eq? (car status) #f) 1) (else (car status)))))",
+    "(define (exit . status) (%rewind '()) (apply emergency-exit status))",
     NULL};
 /* clang-format on */

@@ -16,6 +16,13 @@ size_t want_index(const Machine *machine, const char *name, Word word, uint64_t 
     return (size_t)number(word);
 }
 
+/* An index that is at most a limit, in what has a name. */
+static void index_within(Machine *machine, unsigned dest, unsigned name, unsigned index, unsigned limit) {
+    const uint64_t most = (uint64_t)number(machine->word[limit]);
+    want_index(machine, symbol_name((Symbol)payload(machine->word[name])), machine->word[index], most + 1);
+    machine_set(machine, dest, machine->word[index]);
+}
+
 static int64_t want_integer(const Machine *machine, const char *name, unsigned operand) {
     if (!is_integer(machine->word[operand])) machine_fault(machine, "%s: not an integer", name);
     return number(machine->word[operand]);
@@ -24,18 +31,6 @@ static int64_t want_integer(const Machine *machine, const char *name, unsigned o
 static int want_character(const Machine *machine, const char *name, unsigned operand) {
     if (kind_of(machine->word[operand]) != KIND_CHARACTER) machine_fault(machine, "%s: not a character", name);
     return (int)payload(machine->word[operand]);
-}
-
-static void minimum(Machine *machine, unsigned dest, unsigned a, unsigned b, unsigned c) {
-    UNUSED(c);
-    const int64_t left = want_integer(machine, "min", a), right = want_integer(machine, "min", b);
-    machine_set(machine, dest, integer(left < right ? left : right));
-}
-
-static void maximum(Machine *machine, unsigned dest, unsigned a, unsigned b, unsigned c) {
-    UNUSED(c);
-    const int64_t left = want_integer(machine, "max", a), right = want_integer(machine, "max", b);
-    machine_set(machine, dest, integer(left > right ? left : right));
 }
 
 static void bitwise_and(Machine *machine, unsigned dest, unsigned a, unsigned b, unsigned c) {
@@ -51,18 +46,6 @@ static void bitwise_or(Machine *machine, unsigned dest, unsigned a, unsigned b, 
 static void bitwise_xor(Machine *machine, unsigned dest, unsigned a, unsigned b, unsigned c) {
     UNUSED(c);
     machine_set(machine, dest, integer(want_integer(machine, "bitwise-xor", a) ^ want_integer(machine, "bitwise-xor", b)));
-}
-
-static void is_even(Machine *machine, unsigned dest, unsigned a, unsigned b, unsigned c) {
-    UNUSED(b);
-    UNUSED(c);
-    machine_set(machine, dest, boolean(want_integer(machine, "even?", a) % 2 == 0));
-}
-
-static void is_odd(Machine *machine, unsigned dest, unsigned a, unsigned b, unsigned c) {
-    UNUSED(b);
-    UNUSED(c);
-    machine_set(machine, dest, boolean(want_integer(machine, "odd?", a) % 2 != 0));
 }
 
 static void is_boolean(Machine *machine, unsigned dest, unsigned a, unsigned b, unsigned c) {
@@ -130,98 +113,6 @@ static void downcase(Machine *machine, unsigned dest, unsigned a, unsigned b, un
     machine_set(machine, dest, PLAIN(KIND_CHARACTER, tolower(want_character(machine, "char-downcase", a))));
 }
 
-static void write_constant(const Machine *machine, Word word) {
-    const char *const text = word == EMPTY_LIST ? "()" : word == TRUE ? "#t" : word == FALSE ? "#f" : "#<unspecified>";
-    fputs(text, machine->output);
-}
-
-static void write_character(const Machine *machine, Word word, bool is_quoted) {
-    const int code = (int)payload(word);
-    if (!is_quoted) {
-        fputc(code, machine->output);
-    } else if (code == ' ' || code == '\n' || code == '\t' || code == '\r' || code == '\0') {
-        const char *const name = code == ' ' ? "space" : code == '\n' ? "newline" : code == '\t' ? "tab" : code == '\r' ? "return" : "null";
-        fprintf(machine->output, "#\\%s", name);
-    } else {
-        fprintf(machine->output, "#\\%c", code);
-    }
-}
-
-static void write_quoted(const Machine *machine, size_t length) {
-    static const char escaped[] = "\"\\\n\t\r", letters[] = "\"\\ntr";
-    fputc('"', machine->output);
-    for (size_t i = 0; i < length; i++) {
-        const char c = machine->text[i];
-        const char *const found = c ? strchr(escaped, c) : NULL;
-        if (found) fputc('\\', machine->output);
-        fputc(found ? letters[found - escaped] : c, machine->output);
-    }
-    fputc('"', machine->output);
-}
-
-static void write_string(Machine *machine, unsigned string, bool is_quoted) {
-    const size_t length = (size_t)payload(machine->word[string]);
-    read_string_text(machine, string, 0, length, 0);
-    if (is_quoted) {
-        write_quoted(machine, length);
-    } else if (length) {
-        fwrite(machine->text, 1, length, machine->output);
-    }
-}
-
-/* Writes a value that is neither a pair nor a vector; whether as a source has it. */
-static void write_atom(Machine *machine, unsigned dest, unsigned a, unsigned b, unsigned c) {
-    UNUSED(c);
-    UNUSED(dest);
-    const Word word = machine->word[a];
-    const bool is_quoted = machine->word[b] != FALSE;
-    switch (kind_of(word)) {
-    case KIND_INTEGER: fprintf(machine->output, "%" PRId64, number(word)); break;
-    case KIND_CONSTANT: write_constant(machine, word); break;
-    case KIND_CHARACTER: write_character(machine, word, is_quoted); break;
-    case KIND_SYMBOL: fputs(symbol_name((Symbol)payload(word)), machine->output); break;
-    case KIND_PROCEDURE: fprintf(machine->output, "#<procedure %s>", symbol_name(machine->codes[payload(word)].name)); break;
-    case KIND_STRING: write_string(machine, a, is_quoted); break;
-    case KIND_CONTINUATION: fputs("#<continuation>", machine->output); break;
-    case KIND_PAIR:
-    case KIND_VECTOR:
-    case KIND_SLOTS: machine_fault(machine, "not an atom");
-    }
-}
-
-static void write_char(Machine *machine, unsigned dest, unsigned a, unsigned b, unsigned c) {
-    UNUSED(dest);
-    UNUSED(b);
-    UNUSED(c);
-    fputc(want_character(machine, "write-char", a), machine->output);
-}
-
-/* A fault of the program begins: what is written from now on tells it. */
-static void begin_fault(Machine *machine, unsigned dest, unsigned a, unsigned b, unsigned c) {
-    UNUSED(dest);
-    UNUSED(a);
-    UNUSED(b);
-    UNUSED(c);
-    fault_begin(machine_position(machine));
-    machine->output = stderr;
-}
-
-static void end_fault(Machine *machine, unsigned dest, unsigned a, unsigned b, unsigned c) {
-    UNUSED(machine);
-    UNUSED(dest);
-    UNUSED(a);
-    UNUSED(b);
-    UNUSED(c);
-    fault_end();
-}
-
-static void leave(Machine *machine, unsigned dest, unsigned a, unsigned b, unsigned c) {
-    UNUSED(dest);
-    UNUSED(b);
-    UNUSED(c);
-    machine->exit_status = (int)want_index(machine, "exit", machine->word[a], 256);
-}
-
 static void collect(Machine *machine, unsigned dest, unsigned a, unsigned b, unsigned c) {
     UNUSED(machine);
     UNUSED(dest);
@@ -243,6 +134,8 @@ static void collect(Machine *machine, unsigned dest, unsigned a, unsigned b, uns
     { .name = text, .shape = SHAPE_TEST, .least = 1, .most = 1, .op = code, .adds_other = true, .swaps = turned, .other = word }
 #define IS(text, which) \
     { .name = text, .shape = SHAPE_TEST, .least = 1, .most = 1, .op = OP_IS, .kind = which }
+#define TEST_ONE(text, code) \
+    { .name = text, .shape = SHAPE_TEST, .least = 1, .most = 1, .op = code }
 #define CALL(text, from, to, word, does) \
     { .name = text, .shape = SHAPE_VALUE, .least = from, .most = to, .op = OP_FUNCTION, .other = word, .function = does }
 #define CALL_EFFECT(text, arguments, does) \
@@ -268,7 +161,7 @@ const Primitive primitives[] = {
     COMPARE(">=", OP_NOT_GREATER, true),
     COMPARE("=", OP_NUMBERS_EQUAL, false),
     COMPARE("eq?", OP_SAME, false),
-    COMPARE("eqv?", OP_SAME, false),
+    COMPARE("eqv?", OP_EQUIVALENT, false),
     COMPARE_WITH("zero?", OP_NUMBERS_EQUAL, 0, false),
     COMPARE_WITH("negative?", OP_LESS, 0, false),
     COMPARE_WITH("positive?", OP_LESS, 0, true),
@@ -279,8 +172,34 @@ const Primitive primitives[] = {
     IS("string?", KIND_STRING),
     IS("symbol?", KIND_SYMBOL),
     IS("char?", KIND_CHARACTER),
-    IS("integer?", KIND_INTEGER),
-    IS("number?", KIND_INTEGER),
+    IS("exact-integer?", KIND_INTEGER),
+    TEST_ONE("integer?", OP_IS_WHOLE),
+    TEST_ONE("number?", OP_IS_NUMBER),
+    TEST_ONE("complex?", OP_IS_NUMBER),
+    TEST_ONE("real?", OP_IS_NUMBER),
+    CALL("exact?", 1, 1, 0, is_exact),
+    CALL("finite?", 1, 1, 0, is_finite),
+    CALL("nan?", 1, 1, 0, is_nan),
+    CALL("exact", 1, 1, 0, to_exact),
+    CALL("inexact", 1, 1, 0, to_inexact),
+    CALL("inexact->exact", 1, 1, 0, to_exact),
+    CALL("exact->inexact", 1, 1, 0, to_inexact),
+    CALL("floor", 1, 1, 0, round_down),
+    CALL("ceiling", 1, 1, 0, round_up),
+    CALL("truncate", 1, 1, 0, round_to_zero),
+    CALL("round", 1, 1, 0, round_to_even),
+    CALL("exp", 1, 1, 0, exponential),
+    CALL("log", 1, 2, UNSPECIFIED, logarithm),
+    CALL("sin", 1, 1, 0, sine),
+    CALL("cos", 1, 1, 0, cosine),
+    CALL("tan", 1, 1, 0, tangent),
+    CALL("asin", 1, 1, 0, arc_sine),
+    CALL("acos", 1, 1, 0, arc_cosine),
+    CALL("atan", 1, 2, UNSPECIFIED, arc_tangent),
+    CALL("sqrt", 1, 1, 0, square_root),
+    CALL("%root", 1, 1, 0, whole_root),
+    CALL("%power", 2, 2, 0, power),
+    FOLD("/", OP_FUNCTION, divide),
     CALL("boolean?", 1, 1, 0, is_boolean),
     CALL("procedure?", 1, 1, 0, is_procedure),
     CALL("even?", 1, 1, 0, is_even),
@@ -299,6 +218,7 @@ const Primitive primitives[] = {
     CALL("char-whitespace?", 1, 1, 0, is_whitespace),
     CALL("char-upcase", 1, 1, 0, upcase),
     CALL("char-downcase", 1, 1, 0, downcase),
+    CALL("%index", 3, 3, 0, index_within),
     CALL("make-vector", 1, 2, 0, make_vector),
     CALL("vector-length", 1, 1, 0, vector_length),
     CALL("make-string", 1, 2, PLAIN(KIND_CHARACTER, ' '), make_string),
@@ -313,9 +233,29 @@ const Primitive primitives[] = {
     CALL("string->symbol", 1, 1, 0, string_to_symbol),
     CALL("number->string", 1, 2, (Word)10 << 2, number_to_string),
     CALL("string->number", 1, 2, (Word)10 << 2, string_to_number),
-    CALL_EFFECT("write-char", 1, write_char),
-    CALL_EFFECT("%write-atom", 2, write_atom),
-    CALL_EFFECT("%begin-fault", 0, begin_fault),
+    CALL_EFFECT("write-char", 2, write_char),
+    CALL_EFFECT("%write-atom", 3, write_atom),
+    CALL("open-input-string", 1, 1, 0, open_input_string),
+    CALL("open-output-string", 0, 0, 0, open_output_string),
+    CALL("get-output-string", 1, 1, 0, get_output_string),
+    CALL("read-char", 0, 1, STANDARD_INPUT, read_char),
+    CALL("peek-char", 0, 1, STANDARD_INPUT, peek_char),
+    CALL("read-line", 0, 1, STANDARD_INPUT, read_line),
+    CALL("read-string", 1, 2, STANDARD_INPUT, read_string),
+    CALL("%named-character", 1, 1, 0, named_character),
+    CALL("input-port?", 1, 1, 0, is_input_port),
+    CALL("output-port?", 1, 1, 0, is_output_port),
+    IS("port?", KIND_PORT),
+    COMPARE_WITH("eof-object?", OP_SAME, END_OF_FILE, false),
+    COMPARE("%record?", OP_RECORD_IS, false),
+    CALL("%record-new", 1, 1, 0, record_new),
+    CALL("%record-ref", 2, 2, 0, record_ref),
+    CALL_EFFECT("%record-set!", 3, record_set),
+    CALL("%list->values", 1, 1, 0, values_of),
+    CALL("%values->list", 1, 1, 0, list_of_values),
+    CALL("%continuation-state", 1, 1, 0, continuation_state),
+    CALL("%position", 0, 0, 0, position),
+    CALL_EFFECT("%begin-fault", 1, begin_fault),
     CALL_EFFECT("%end-fault", 0, end_fault),
     CALL_EFFECT("%exit", 1, leave),
     CALL_EFFECT("collect", 0, collect),

@@ -3,6 +3,7 @@
  */
 #include "reader.h"
 #include "arena.h"
+#include "decimal.h"
 #include "symbols.h"
 #include <string.h>
 
@@ -58,7 +59,19 @@ static void add_item(Items *items, Datum *datum) {
 
 static bool is_space(char c) { return c == ' ' || c == '\n' || c == '\t' || c == '\r' || c == '\f'; }
 
-static bool ends_token(char c) { return is_space(c) || (c && strchr("()\";'`,", c)); }
+static bool ends_token(char c) {
+    switch (c) {
+    case '(':
+    case ')':
+    case '"':
+    case ';':
+    case '\'':
+    case '`':
+    case ',':
+    case '|': return true;
+    default: return is_space(c);
+    }
+}
 
 /* Skips `#| .. |#`, which nest, from behind the first two. */
 static Read skip_block(Reader *reader, Position from) {
@@ -77,13 +90,31 @@ static Read skip_block(Reader *reader, Position from) {
     return READ_DATUM;
 }
 
+/* Skips `#;` and the datum after it. */
+static Read skip_datum(Reader *reader, unsigned depth) {
+    const Position from = reader->at;
+    Datum *datum;
+    take(reader);
+    take(reader);
+    if (depth > DEPTH_MOST) fault(from, "comments within comments, more than %d deep", DEPTH_MOST);
+    const Read read = read_at(reader, &datum, depth + 1);
+    if (read == READ_END && !reader->has_more) fault(from, "nothing after #;");
+    return read == READ_DATUM ? READ_DATUM : READ_UNFINISHED;
+}
+
+static bool is_next(const Reader *reader, char second) {
+    return peek(reader) == '#' && reader->next + 1 < reader->length && reader->text[reader->next + 1] == second;
+}
+
 /* Skips what stands before the next datum. */
-static Read skip_blank(Reader *reader) {
+static Read skip_blank(Reader *reader, unsigned depth) {
     while (!at_end(reader)) {
         const char c = peek(reader);
         if (c == ';') {
             while (!at_end(reader) && peek(reader) != '\n') take(reader);
-        } else if (c == '#' && reader->next + 1 < reader->length && reader->text[reader->next + 1] == '|') {
+        } else if (is_next(reader, ';')) {
+            if (skip_datum(reader, depth) == READ_UNFINISHED) return READ_UNFINISHED;
+        } else if (is_next(reader, '|')) {
             const Position from = reader->at;
             take(reader);
             take(reader);
@@ -104,29 +135,24 @@ static int digit_of(char c) {
     return 99;
 }
 
-bool read_integer(const char *text, size_t length, int base, Word *word, bool *fits) {
-    const bool is_negative = length && *text == '-';
-    size_t at = length && (*text == '-' || *text == '+') ? 1 : 0;
-    int64_t sum = 0;
-    *fits = true;
-    if (at == length) return false;
-    for (; at < length; at++) {
-        const int digit = digit_of(text[at]);
-        if (digit >= base) return false;
-        if (sum < (INTEGER_LEAST + digit) / base) *fits = false;
-        if (*fits) sum = sum * base - digit;
-    }
-    if (!is_negative && sum == INTEGER_LEAST) *fits = false;
-    *word = integer(is_negative || !*fits ? sum : -sum);
-    return true;
+/* The datum of a number, or null where a text is none. */
+static Datum *number_at(Position at, const char *text, size_t length) {
+    if (*text > '9') return NULL; /* most texts: names that begin with a letter */
+    const Number number_read = read_number(text, length, 10);
+    if (number_read.kind == NUMBER_NONE) return NULL;
+    if (number_read.kind == NUMBER_TOO_LARGE) fault(at, "an integer of more than 62 bits: %.*s", (int)length, text);
+    if (number_read.kind == NUMBER_INTEGER) return word_at(at, number_read.word);
+    Datum *const datum = datum_at(at, DATUM_REAL);
+    datum->real = number_read.real;
+    return datum;
 }
 
-static Datum *integer_at(Position at, const char *text, size_t length, int base) {
-    Word word;
-    bool fits;
-    if (!read_integer(text, length, base, &word, &fits)) return NULL;
-    if (!fits) fault(at, "an integer of more than 62 bits: %.*s", (int)length, text);
-    return word_at(at, word);
+bool is_plain_name(const char *name) {
+    const size_t length = strlen(name);
+    for (size_t i = 0; i < length; i++) {
+        if (ends_token(name[i])) return false;
+    }
+    return length && *name != '#' && strcmp(name, ".") != 0 && read_number(name, length, 10).kind == NUMBER_NONE;
 }
 
 static Datum *read_token(Reader *reader) {
@@ -137,15 +163,34 @@ static Datum *read_token(Reader *reader) {
         take(reader);
         length++;
     }
-    Datum *const number = integer_at(at, text, length, 10);
+    Datum *const number = number_at(at, text, length);
     return number ? number : word_at(at, PLAIN(KIND_SYMBOL, symbol_of(text, length)));
 }
 
+static const struct {
+    const char *name;
+    unsigned char code;
+} character_names[] = {{"space", ' '}, {"newline", '\n'}, {"tab", '\t'},       {"return", '\r'}, {"null", '\0'},
+                       {"nul", '\0'},  {"alarm", '\a'},   {"backspace", '\b'}, {"delete", 0x7f}, {"escape", 0x1b}};
+
+const char *character_name(unsigned char code) {
+    for (size_t i = 0; i < sizeof character_names / sizeof *character_names; i++) {
+        if (character_names[i].code == code) return character_names[i].name;
+    }
+    return NULL;
+}
+
+int character_code(const char *name, size_t length) {
+    if (length == 1) return (unsigned char)*name;
+    for (size_t i = 0; i < sizeof character_names / sizeof *character_names; i++) {
+        if (strlen(character_names[i].name) == length && memcmp(character_names[i].name, name, length) == 0) return character_names[i].code;
+    }
+    if (*name != 'x' || digit_of(name[1]) > 15) return -1;
+    const Number code = read_number(name + 1, length - 1, 16);
+    return code.kind == NUMBER_INTEGER && number(code.word) < 256 ? (int)number(code.word) : -1;
+}
+
 static Datum *read_character(Reader *reader, Position at) {
-    static const struct {
-        const char *name;
-        char code;
-    } names[] = {{"space", ' '}, {"newline", '\n'}, {"tab", '\t'}, {"return", '\r'}, {"null", '\0'}, {"nul", '\0'}};
     const char *const text = reader->text + reader->next;
     if (at_end(reader)) fault(at, "a character without a name");
     size_t length = 1;
@@ -154,13 +199,27 @@ static Datum *read_character(Reader *reader, Position at) {
         take(reader);
         length++;
     }
-    if (length == 1) return word_at(at, PLAIN(KIND_CHARACTER, (unsigned char)*text));
-    for (size_t i = 0; i < sizeof names / sizeof *names; i++) {
-        if (strlen(names[i].name) == length && memcmp(names[i].name, text, length) == 0) {
-            return word_at(at, PLAIN(KIND_CHARACTER, (unsigned char)names[i].code));
-        }
-    }
-    fault(at, "no such character: #\\%.*s", (int)length, text);
+    const int code = character_code(text, length);
+    if (code < 0) fault(at, "no such character: #\\%.*s", (int)length, text);
+    return word_at(at, PLAIN(KIND_CHARACTER, code));
+}
+
+/* `\x41;` is the character of this code. */
+static char read_code(Reader *reader, Position at) {
+    unsigned code = 0;
+    while (!at_end(reader) && code < 256 && digit_of(peek(reader)) < 16) code = 16 * code + (unsigned)digit_of(take(reader));
+    if (at_end(reader) || code > 255 || take(reader) != ';') fault(at, "no such escape: \\x");
+    return (char)code;
+}
+
+/* A line's end within a string is left out after `\\`, with the blanks around it. Whether there is one. */
+static bool skip_line_end(Reader *reader) {
+    size_t end = reader->next;
+    while (end < reader->length && (reader->text[end] == ' ' || reader->text[end] == '\t')) end++;
+    if (end == reader->length || reader->text[end] != '\n') return false;
+    while (reader->next <= end) take(reader);
+    while (!at_end(reader) && (peek(reader) == ' ' || peek(reader) == '\t')) take(reader);
+    return true;
 }
 
 static char read_escape(Reader *reader, Position at) {
@@ -169,32 +228,52 @@ static char read_escape(Reader *reader, Position at) {
     case 'n': return '\n';
     case 't': return '\t';
     case 'r': return '\r';
+    case 'a': return '\a';
+    case 'b': return '\b';
+    case 'x': return read_code(reader, at);
     case '\\':
+    case '|':
     case '"': return c;
     default: fault(at, "no such escape: \\%c", c);
     }
 }
 
-static Read read_string(Reader *reader, Datum **datum) {
+/* Reads what stands between two marks, the first of which is next. */
+static Read read_between(Reader *reader, char mark, const char *what, const char **text, size_t *length) {
     const Position from = reader->at;
     take(reader);
-    char *const text = arena_take(reader->length - reader->next + 1);
+    char *const bytes = arena_take(reader->length - reader->next + 1);
     size_t count = 0;
-    while (!at_end(reader) && peek(reader) != '"') {
+    while (!at_end(reader) && peek(reader) != mark) {
         const Position at = reader->at;
         char c = take(reader);
+        if (c == '\\' && skip_line_end(reader)) continue;
         if (c == '\\' && !at_end(reader)) c = read_escape(reader, at);
-        text[count++] = c;
+        bytes[count++] = c;
     }
     if (at_end(reader)) {
         if (reader->has_more) return READ_UNFINISHED;
-        fault(from, "a string without an end");
+        fault(from, "%s without an end", what);
     }
     take(reader);
-    *datum = datum_at(from, DATUM_STRING);
-    (*datum)->text = text;
-    (*datum)->count = count;
+    *text = bytes;
+    *length = count;
     return READ_DATUM;
+}
+
+static Read read_string(Reader *reader, Datum **datum) {
+    *datum = datum_at(reader->at, DATUM_STRING);
+    return read_between(reader, '"', "a string", &(*datum)->text, &(*datum)->count);
+}
+
+/* A symbol between bars. */
+static Read read_name(Reader *reader, Datum **datum) {
+    const Position at = reader->at;
+    const char *text = "";
+    size_t length = 0;
+    const Read read = read_between(reader, '|', "a symbol", &text, &length);
+    if (read == READ_DATUM) *datum = word_at(at, PLAIN(KIND_SYMBOL, symbol_of(text, length)));
+    return read;
 }
 
 static bool is_dot(const Datum *datum) {
@@ -205,7 +284,7 @@ static bool is_dot(const Datum *datum) {
 static Read read_items(Reader *reader, Datum *list, unsigned depth) {
     Items items = {0};
     for (;;) {
-        const Read blank = skip_blank(reader);
+        const Read blank = skip_blank(reader, depth);
         if (blank == READ_END && !reader->has_more) fault(list->at, "a list without an end");
         if (blank != READ_DATUM) return READ_UNFINISHED;
         if (peek(reader) == ')') break;
@@ -226,6 +305,11 @@ static Read read_items(Reader *reader, Datum *list, unsigned depth) {
     }
     if (list->tail && is_dot(list->tail)) fault(list->tail->at, "nothing after a dot");
     take(reader);
+    if (list->tail && list->tail->kind == DATUM_LIST) { /* (a . (b c)) is (a b c) */
+        const Datum *const rest = list->tail;
+        for (size_t i = 0; i < rest->count; i++) add_item(&items, rest->items[i]);
+        list->tail = rest->tail;
+    }
     list->items = items.list;
     list->count = items.count;
     return READ_DATUM;
@@ -272,26 +356,24 @@ static Read read_hash(Reader *reader, Datum **datum, unsigned depth) {
         *datum = read_character(reader, at);
         return READ_DATUM;
     }
-    const char *const text = reader->text + reader->next;
-    size_t length = 0;
+    const char *const text = reader->text + reader->next - 1;
+    size_t length = 1;
     while (!at_end(reader) && !ends_token(peek(reader))) {
         take(reader);
         length++;
     }
-    if ((length == 1 && *text == 't') || (length == 4 && memcmp(text, "true", 4) == 0)) {
+    if ((length == 2 && text[1] == 't') || (length == 5 && memcmp(text, "#true", 5) == 0)) {
         *datum = word_at(at, TRUE);
-    } else if ((length == 1 && *text == 'f') || (length == 5 && memcmp(text, "false", 5) == 0)) {
+    } else if ((length == 2 && text[1] == 'f') || (length == 6 && memcmp(text, "#false", 6) == 0)) {
         *datum = word_at(at, FALSE);
-    } else if (length > 1 && *text == 'x' && (*datum = integer_at(at, text + 1, length - 1, 16)) != NULL) {
-        return READ_DATUM;
-    } else {
-        fault(at, "unknown: #%.*s", (int)length, text);
+    } else if ((*datum = number_at(at, text, length)) == NULL) {
+        fault(at, "unknown: %.*s", (int)length, text);
     }
     return READ_DATUM;
 }
 
 static Read read_at(Reader *reader, Datum **datum, unsigned depth) {
-    const Read blank = skip_blank(reader);
+    const Read blank = skip_blank(reader, depth);
     if (blank != READ_DATUM) return blank;
     switch (peek(reader)) {
     case '(': return read_list(reader, datum, reader->at, DATUM_LIST, depth);
@@ -300,6 +382,7 @@ static Read read_at(Reader *reader, Datum **datum, unsigned depth) {
     case '`': return read_quoted(reader, datum, "quasiquote", depth);
     case ',': return read_quoted(reader, datum, "unquote", depth);
     case '"': return read_string(reader, datum);
+    case '|': return read_name(reader, datum);
     case '#': return read_hash(reader, datum, depth);
     default: *datum = read_token(reader); return READ_DATUM;
     }

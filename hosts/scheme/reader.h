@@ -8,13 +8,14 @@
 #include "value.h"
 #include <stddef.h>
 
-typedef enum datum_kind { DATUM_WORD, DATUM_STRING, DATUM_LIST, DATUM_VECTOR } DatumKind;
+typedef enum datum_kind { DATUM_WORD, DATUM_REAL, DATUM_STRING, DATUM_LIST, DATUM_VECTOR } DatumKind;
 
 /* What was read. It is source, and no object of the heap: it is gone once its form is compiled. */
 typedef struct datum {
     DatumKind kind;
     Position at;
     Word word;            /* DATUM_WORD: an integer, a character, a boolean or a symbol */
+    double real;          /* DATUM_REAL */
     const char *text;     /* DATUM_STRING */
     struct datum **items; /* DATUM_LIST, DATUM_VECTOR */
     struct datum *tail;   /* DATUM_LIST: what stands behind the dot, or null */
@@ -35,7 +36,11 @@ Reader reader_of(const char *text, size_t length);
 /* Reads the next datum; tells a fault where there is one. */
 Read read_datum(Reader *reader, Datum **datum);
 
-/* Reads an integer in a base; whether the text is one. One that takes more than 62 bits is told by `fits`. */
-bool read_integer(const char *text, size_t length, int base, Word *word, bool *fits);
+/* The name that a character has in a source, or null; and the code of a character of a name, or less than 0. */
+const char *character_name(unsigned char code);
+int character_code(const char *name, size_t length);
+
+/* Whether a source can have a symbol of this name without bars. */
+bool is_plain_name(const char *name);
 
 #endif

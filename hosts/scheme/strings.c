@@ -5,10 +5,9 @@
  * its word. What works on many bytes copies them to the machine's text, works there, and makes a string of it.
  */
 #include "primitives.h"
-#include "reader.h"
 #include <string.h>
 
-enum { WORD_BYTES = 8, STRING_MOST = BODY_BLOCKS_MOST * BODY_BLOCK_WORDS * WORD_BYTES, CHUNK_WORDS = 64 };
+enum { WORD_BYTES = 8, CHUNK_WORDS = 64 };
 
 static size_t words_of(size_t length) { return (length + WORD_BYTES - 1) / WORD_BYTES; }
 
@@ -24,7 +23,7 @@ static unsigned char want_character(const Machine *machine, const char *name, un
     return (unsigned char)payload(machine->word[operand]);
 }
 
-static void want_text(Machine *machine, size_t bytes) {
+void want_text(Machine *machine, size_t bytes) {
     if (machine->text_room >= bytes) return;
     machine->text_room = 2 * bytes;
     machine->text = more_memory(machine->text, machine->text_room);
@@ -34,7 +33,7 @@ static void read_words(unsigned string, bool is_body, size_t index, Word *into, 
     if (is_body) {
         memory_read(string, index, into, count);
     } else {
-        for (size_t i = 0; i < count; i++) into[i] = memory_get(string, (unsigned)(index + i));
+        memory_get_many(string, (unsigned)index, into, count);
     }
 }
 
@@ -42,7 +41,7 @@ static void write_words(unsigned string, bool is_body, size_t index, const Word 
     if (is_body) {
         memory_write(string, index, from, count);
     } else {
-        for (size_t i = 0; i < count; i++) memory_put(string, (unsigned)(index + i), from[i]);
+        memory_put_many(string, (unsigned)index, from, count);
     }
 }
 
@@ -61,19 +60,58 @@ void read_string_text(Machine *machine, unsigned string, size_t from, size_t to,
     }
 }
 
+/* A string that a chunk has room for is made with its words. */
+static void make_short_string(const Machine *machine, unsigned dest, const char *text, size_t length) {
+    static const uint32_t no_sources[1];
+    Word chunk[CHUNK_WORDS];
+    chunk[length ? words_of(length) - 1 : 0] = 0;
+    if (length) memcpy(chunk, text, length);
+    machine_new_with(machine, dest, no_sources, 0, chunk, words_of(length));
+}
+
 static void make_string_object(const Machine *machine, unsigned dest, size_t length) {
     if (length > STRING_MOST) machine_fault(machine, "a string of more than %d bytes", STRING_MOST);
     if (!is_large(length)) {
         machine_new(machine, dest, 0, (unsigned)words_of(length));
     } else if (!memory_big(dest, (unsigned)((words_of(length) + BODY_BLOCK_WORDS - 1) / BODY_BLOCK_WORDS))) {
-        machine_fault(machine, "the heap is full");
+        machine_full(machine);
     }
+}
+
+void make_string_room(Machine *machine, unsigned dest, size_t length) {
+    make_string_object(machine, dest, length);
+    machine_hold(machine, dest, REFERENCE(KIND_STRING, length));
+}
+
+void write_string_text(Machine *machine, unsigned string, size_t at, const char *bytes, size_t count) {
+    const bool is_body = is_large((size_t)payload(machine->word[string]));
+    Word chunk[CHUNK_WORDS];
+    while (count) {
+        const size_t skipped = at % WORD_BYTES, room = sizeof chunk - skipped, now = count < room ? count : room;
+        read_words(string, is_body, at / WORD_BYTES, chunk, words_of(skipped + now));
+        memcpy((char *)chunk + skipped, bytes, now);
+        write_words(string, is_body, at / WORD_BYTES, chunk, words_of(skipped + now));
+        at += now;
+        bytes += now;
+        count -= now;
+    }
+}
+
+unsigned char string_byte(const Machine *machine, unsigned string, size_t at) {
+    Word word;
+    read_words(string, is_large((size_t)payload(machine->word[string])), at / WORD_BYTES, &word, 1);
+    return ((const unsigned char *)&word)[at % WORD_BYTES];
 }
 
 void make_string_of(Machine *machine, unsigned dest, const char *text, size_t length) {
     Word chunk[CHUNK_WORDS];
-    make_string_object(machine, dest, length);
-    for (size_t from = 0; from < length; from += sizeof chunk) {
+    const bool is_short = length <= sizeof chunk;
+    if (is_short) {
+        make_short_string(machine, dest, text, length);
+    } else {
+        make_string_object(machine, dest, length);
+    }
+    for (size_t from = is_short ? length : 0; from < length; from += sizeof chunk) {
         const size_t bytes = length - from < sizeof chunk ? length - from : sizeof chunk;
         chunk[words_of(bytes) - 1] = 0;
         memcpy(chunk, text + from, bytes);
@@ -102,9 +140,7 @@ void string_ref(Machine *machine, unsigned dest, unsigned string, unsigned index
     (void)unused;
     const size_t length = want_string(machine, "string-ref", string);
     const size_t at = want_index(machine, "string-ref", machine->word[index], length);
-    Word word;
-    read_words(string, is_large(length), at / WORD_BYTES, &word, 1);
-    machine_set(machine, dest, PLAIN(KIND_CHARACTER, ((const unsigned char *)&word)[at % WORD_BYTES]));
+    machine_set(machine, dest, PLAIN(KIND_CHARACTER, string_byte(machine, string, at)));
 }
 
 void string_set(Machine *machine, unsigned dest, unsigned string, unsigned index, unsigned value) {
@@ -168,37 +204,4 @@ void string_to_symbol(Machine *machine, unsigned dest, unsigned string, unsigned
     const size_t length = want_string(machine, "string->symbol", string);
     read_string_text(machine, string, 0, length, 0);
     machine_set(machine, dest, PLAIN(KIND_SYMBOL, symbol_of(length ? machine->text : "", length)));
-}
-
-static int want_base(const Machine *machine, const char *name, unsigned base) {
-    const Word word = machine->word[base];
-    if (!is_integer(word) || number(word) < 2 || number(word) > 36) machine_fault(machine, "%s: a base is 2 to 36", name);
-    return (int)number(word);
-}
-
-void number_to_string(Machine *machine, unsigned dest, unsigned operand, unsigned base_operand, unsigned unused) {
-    (void)unused;
-    const int base = want_base(machine, "number->string", base_operand);
-    if (!is_integer(machine->word[operand])) machine_fault(machine, "number->string: not an integer");
-    int64_t left = number(machine->word[operand]);
-    const bool is_negative = left < 0;
-    char digits[64];
-    size_t at = sizeof digits;
-    do {
-        const int64_t digit = left % base;
-        digits[--at] = "0123456789abcdefghijklmnopqrstuvwxyz"[digit < 0 ? -digit : digit];
-        left /= base;
-    } while (left);
-    if (is_negative) digits[--at] = '-';
-    make_string_of(machine, dest, digits + at, sizeof digits - at);
-}
-
-void string_to_number(Machine *machine, unsigned dest, unsigned string, unsigned base_operand, unsigned unused) {
-    (void)unused;
-    const int base = want_base(machine, "string->number", base_operand);
-    const size_t length = want_string(machine, "string->number", string);
-    Word word;
-    bool fits;
-    read_string_text(machine, string, 0, length, 0);
-    machine_set(machine, dest, read_integer(length ? machine->text : "", length, base, &word, &fits) && fits ? word : FALSE);
 }

@@ -1,41 +1,13 @@
 /*
  * The syntax: from data to a tree of expressions, in which each name is resolved. SPDX: MIT OR Apache-2.0
  */
-#include "syntax.h"
+#include "forms.h"
 #include "arena.h"
 #include <stdio.h>
 #include <stdlib.h>
 #include <string.h>
 
-enum { PATH_MOST = 4 };
-
-/* The local variables that a place sees, the innermost first. */
-typedef struct scope {
-    const struct scope *outer;
-    Variable *variable;
-} Scope;
-
-/* The loops whose call is the last thing that is done where it stands at a place, the innermost first. */
-typedef struct tail {
-    const struct tail *outer;
-    Loop *loop;
-} Tail;
-
-typedef struct place {
-    const Scope *scope;
-    const Tail *tail;
-} Place;
-
-typedef Node *Form(const Datum *form, Place place);
-
-/* What a symbol is where no local variable has its name. */
-typedef struct global {
-    bool has_entry;
-    unsigned entry;
-    Form *form;
-    bool is_keyword; /* the form has no value of its own */
-    const Primitive *primitive;
-} Global;
+enum { PATH_MOST = 4, DEPTH_MOST = 2000 };
 
 static Machine *machine;
 static Global *globals;
@@ -43,11 +15,9 @@ static size_t global_room;
 static bool is_prelude = true;
 static Node **constants; /* of the form that is read: each sets an entry of the table */
 static size_t constant_count, constant_room;
+static unsigned depth_of_parse; /* forms within forms */
 
-static Node *parse(const Datum *datum, Place place);
-static Node *parse_body(const Datum *form, size_t from, Place place);
-
-static Node *node_at(Position at, NodeKind kind, size_t count) {
+Node *node_at(Position at, NodeKind kind, size_t count) {
     Node *const node = arena_take(sizeof *node);
     node->kind = kind;
     if (!is_prelude) node->at = at; /* what stands in no source of the program has no position */
@@ -56,28 +26,53 @@ static Node *node_at(Position at, NodeKind kind, size_t count) {
     return node;
 }
 
-static Node *word_node(Position at, Word word) {
+Node *word_node(Position at, Word word) {
     Node *const node = node_at(at, NODE_WORD, 0);
     node->word = word;
     return node;
 }
 
-static Node *local_node(Position at, Variable *variable) {
+Node *local_node(Position at, Variable *variable) {
     Node *const node = node_at(at, NODE_LOCAL, 0);
     node->variable = variable;
     return node;
 }
 
-static Variable *variable_of(Symbol name, bool is_defined) {
+/* A node whose variables are still to be set. */
+static Node *binding_node(Position at, NodeKind kind, size_t count, size_t variables) {
+    Node *const node = node_at(at, kind, count);
+    node->variable_count = (unsigned)variables;
+    node->variables = arena_take((variables + 1) * sizeof(Variable *));
+    return node;
+}
+
+Node *let_node(Position at, size_t count) { return binding_node(at, NODE_LET, count + 1, count); }
+
+Node *lambda_node(Position at, Symbol name, size_t count) {
+    Node *const lambda = binding_node(at, NODE_LAMBDA, 1, count);
+    lambda->name = base_of(name);
+    return lambda;
+}
+
+Node *apply_node(Position at, Node *procedure, Node *list) {
+    Node *const apply = node_at(at, NODE_APPLY, 2);
+    apply->nodes[0] = procedure;
+    apply->nodes[1] = list;
+    return apply;
+}
+
+Variable *variable_of(Symbol name, bool is_defined) {
     Variable *const variable = arena_take(sizeof *variable);
     variable->name = name;
     variable->is_defined = is_defined;
     return variable;
 }
 
-static Symbol symbol(const char *name) { return symbol_of(name, strlen(name)); }
+Variable *unnamed_variable(void) { return variable_of(symbol(" "), true); }
 
-static Global *global_of(Symbol name) {
+Symbol symbol(const char *name) { return symbol_of(name, strlen(name)); }
+
+Global *global_of(Symbol name) {
     if (name >= global_room) {
         const size_t room = 2 * ((size_t)name + 512);
         globals = more_memory(globals, room * sizeof *globals);
@@ -102,28 +97,35 @@ static Node *global_node(Position at, Symbol name) {
     return node;
 }
 
-static bool is_symbol(const Datum *datum) { return datum->kind == DATUM_WORD && kind_of(datum->word) == KIND_SYMBOL; }
+bool is_symbol(const Datum *datum) { return datum->kind == DATUM_WORD && kind_of(datum->word) == KIND_SYMBOL; }
 
-static Symbol name_of(const Datum *datum) { return (Symbol)payload(datum->word); }
+Symbol name_of(const Datum *datum) { return (Symbol)payload(datum->word); }
 
-static bool is_named(const Datum *datum, const char *name) { return is_symbol(datum) && strcmp(symbol_name(name_of(datum)), name) == 0; }
-
-static bool is_form(const Datum *datum, const char *name) {
-    return datum->kind == DATUM_LIST && datum->count && is_named(datum->items[0], name);
+bool is_keyword(const Datum *datum, const char *name, Place place) {
+    if (!is_symbol(datum) || strcmp(symbol_name(base_of(name_of(datum))), name) != 0) return false;
+    return !meaning_of(name_of(datum), place.scope).variable;
 }
 
-static Symbol want_name(const Datum *datum) {
+Form *form_of(const Datum *datum, Place place) {
+    if (datum->kind != DATUM_LIST || !datum->count || !is_symbol(datum->items[0])) return NULL;
+    const Meaning meaning = meaning_of(name_of(datum->items[0]), place.scope);
+    return meaning.variable ? NULL : global_of(meaning.symbol)->form;
+}
+
+const char *spelled(const Datum *datum) { return symbol_name(base_of(name_of(datum->items[0]))); }
+
+Symbol want_name(const Datum *datum) {
     if (!is_symbol(datum)) fault(datum->at, "a name is wanted here");
     return name_of(datum);
 }
 
 /* A form is a list of so many items, the first of which is its keyword. */
-static void want_items(const Datum *form, size_t least, size_t most) {
+void want_items(const Datum *form, size_t least, size_t most) {
     if (form->tail) fault(form->at, "a form with a dot");
-    if (form->count < least || form->count > most) fault(form->at, "%s: a wrong number of parts", symbol_name(name_of(form->items[0])));
+    if (form->count < least || form->count > most) fault(form->at, "%s: a wrong number of parts", spelled(form));
 }
 
-static const Datum *want_list(const Datum *datum) {
+const Datum *want_list(const Datum *datum) {
     if (datum->kind != DATUM_LIST || datum->tail) fault(datum->at, "a list is wanted here");
     return datum;
 }
@@ -133,23 +135,29 @@ static Variable *find_variable(const Scope *scope, Symbol name) {
     return scope ? scope->variable : NULL;
 }
 
-static Place inner(Place place, Variable *variable) {
+Meaning meaning_of(Symbol name, const Scope *scope) {
+    Variable *variable = find_variable(scope, name);
+    while (!variable && is_alias(name)) {
+        name = alias_source(name, &scope);
+        variable = find_variable(scope, name);
+    }
+    return (Meaning){.variable = variable, .symbol = name};
+}
+
+Place inner(Place place, Variable *variable) {
     Scope *const scope = arena_take(sizeof *scope);
     *scope = (Scope){.outer = place.scope, .variable = variable};
     return (Place){.scope = scope, .tail = place.tail};
 }
 
-static Place not_last(Place place) { return (Place){.scope = place.scope, .tail = NULL}; }
-
-/* Whether a symbol stands for a form, a primitive or a global, and for no local variable. */
-static bool is_global(const Datum *datum, Place place) { return is_symbol(datum) && !find_variable(place.scope, name_of(datum)); }
+Place not_last(Place place) { return (Place){.scope = place.scope, .tail = NULL}; }
 
 static Node *parse_reference(const Datum *datum, Place place) {
-    Variable *const variable = find_variable(place.scope, name_of(datum));
-    if (!variable) {
-        if (global_of(name_of(datum))->is_keyword) fault(datum->at, "%s is a keyword", symbol_name(name_of(datum)));
-        return global_node(datum->at, name_of(datum));
-    }
+    const Meaning meaning = meaning_of(name_of(datum), place.scope);
+    Variable *const variable = meaning.variable;
+    const bool is_form = variable ? variable->macro != NULL : global_of(meaning.symbol)->is_keyword || global_of(meaning.symbol)->macro;
+    if (is_form) fault(datum->at, "%s is a keyword", symbol_name(base_of(name_of(datum))));
+    if (!variable) return global_node(datum->at, meaning.symbol);
     if (variable->loop) variable->loop->is_broken = true;
     if (!variable->is_defined) variable->is_assigned = true;
     return local_node(datum->at, variable);
@@ -166,17 +174,21 @@ static Node *list_of_items(const Datum *datum) {
     return list;
 }
 
-static Node *call_of_global(const char *global, Node *argument) {
-    Node *const call = node_at(argument->at, NODE_CALL, 2);
-    call->nodes[0] = global_node(argument->at, symbol(global));
-    call->nodes[1] = argument;
+Node *global_call(Position at, const char *global, Node *const *arguments, size_t count) {
+    Node *const call = node_at(at, NODE_CALL, count + 1);
+    call->nodes[0] = global_node(at, symbol(global));
+    for (size_t i = 0; i < count; i++) call->nodes[i + 1] = arguments[i];
     return call;
 }
+
+Node *call_of_global(const char *global, Node *argument) { return global_call(argument->at, global, &argument, 1); }
 
 void syntax_define(const char *name, Word word) {
     const unsigned entry = entry_of(symbol(name));
     machine->table[entry] = word;
 }
+
+unsigned syntax_entry(const char *name) { return entry_of(symbol(name)); }
 
 static void add_constant(Node *set) {
     if (constant_count == constant_room) {
@@ -188,12 +200,17 @@ static void add_constant(Node *set) {
 
 /* A constant with a reference has an entry of the table, which is set before its form runs. */
 static Node *quote(const Datum *datum) {
+    if (is_symbol(datum)) return word_node(datum->at, PLAIN(KIND_SYMBOL, base_of(name_of(datum))));
     if (datum->kind == DATUM_WORD) return word_node(datum->at, datum->word);
     if (datum->kind == DATUM_LIST && !datum->count) return word_node(datum->at, EMPTY_LIST);
     Node *const node = node_at(datum->at, NODE_TABLE, 0);
     node->entry = machine_add_entry(machine, symbol("constant"));
-    if (datum->kind == DATUM_STRING) {
-        make_string_of(machine, REGISTER_FIRST, datum->text, datum->count);
+    if (datum->kind == DATUM_STRING || datum->kind == DATUM_REAL) {
+        if (datum->kind == DATUM_REAL) {
+            make_real(machine, REGISTER_FIRST, datum->real);
+        } else {
+            make_string_of(machine, REGISTER_FIRST, datum->text, datum->count);
+        }
         machine_set_entry(machine, node->entry, REGISTER_FIRST);
         return node;
     }
@@ -223,19 +240,39 @@ static Node *list_node(Position at, Node *first, Node *second, Node *tail) {
 }
 
 static Node *append_node(Node *first, Node *second) {
-    Node *const call = node_at(first->at, NODE_CALL, 3);
-    call->nodes[0] = global_node(first->at, symbol("%append"));
-    call->nodes[1] = first;
-    call->nodes[2] = second;
-    return call;
+    Node *const both[] = {first, second};
+    return global_call(first->at, "%append", both, 2);
+}
+
+/* Whether a datum is a list of such a keyword and one item more. */
+static bool is_quasi(const Datum *datum, const char *name, Place place) {
+    return datum->kind == DATUM_LIST && datum->count == 2 && is_keyword(datum->items[0], name, place);
+}
+
+/* How many items of a list stand before its end: `(a . ,b)` is (a unquote b). */
+static size_t count_before_end(const Datum *datum, Place place) {
+    const bool is_unquoted = datum->kind == DATUM_LIST && datum->count > 2 && !datum->tail;
+    return is_unquoted && is_keyword(datum->items[datum->count - 2], "unquote", place) ? datum->count - 2 : datum->count;
+}
+
+/* What a list within a quasi-quotation ends in, from some item on. */
+static Node *quasi_end(const Datum *datum, size_t from, unsigned depth, Place place) {
+    if (datum->tail) return quasi(datum->tail, depth, place);
+    if (from == datum->count) return word_node(datum->at, EMPTY_LIST);
+    Datum *const rest = arena_take(sizeof *rest);
+    *rest = *datum;
+    rest->items += from;
+    rest->count -= from;
+    return quasi(rest, depth, place);
 }
 
 /* The items of a list within a quasi-quotation, from the last to the first. */
 static Node *quasi_items(const Datum *datum, unsigned depth, Place place) {
-    Node *list = datum->tail ? quasi(datum->tail, depth, place) : word_node(datum->at, EMPTY_LIST);
-    for (size_t i = datum->count; i > 0; i--) {
+    const size_t count = count_before_end(datum, place);
+    Node *list = quasi_end(datum, count, depth, place);
+    for (size_t i = count; i > 0; i--) {
         const Datum *const item = datum->items[i - 1];
-        if (is_form(item, "unquote-splicing") && item->count == 2 && depth == 1) {
+        if (is_quasi(item, "unquote-splicing", place) && depth == 1) {
             list = append_node(parse(item->items[1], not_last(place)), list);
         } else {
             list = list_node(item->at, quasi(item, depth, place), NULL, list);
@@ -247,10 +284,10 @@ static Node *quasi_items(const Datum *datum, unsigned depth, Place place) {
 static Node *quasi(const Datum *datum, unsigned depth, Place place) {
     if (datum->kind == DATUM_VECTOR) return call_of_global("list->vector", quasi_items(datum, depth, place));
     if (datum->kind != DATUM_LIST || !datum->count) return quote(datum);
-    const bool is_unquote = is_form(datum, "unquote") && datum->count == 2;
+    const bool is_unquote = is_quasi(datum, "unquote", place);
     if (is_unquote && depth == 1) return parse(datum->items[1], not_last(place));
-    if (is_unquote) return quasi_items(datum, depth - 1, place);
-    if (is_form(datum, "quasiquote") && datum->count == 2) return quasi_items(datum, depth + 1, place);
+    if (is_unquote || (is_quasi(datum, "unquote-splicing", place) && depth > 1)) return quasi_items(datum, depth - 1, place);
+    if (is_quasi(datum, "quasiquote", place)) return quasi_items(datum, depth + 1, place);
     return quasi_items(datum, depth, place);
 }
 
@@ -261,33 +298,36 @@ static Node *parse_quasiquote(const Datum *form, Place place) {
 
 /* Bindings and bodies */
 
-static Node *parse_lambda_of(Position at, Symbol name, const Datum *parameters, size_t from, const Datum *form, size_t body, Place place) {
-    Node *const lambda = node_at(at, NODE_LAMBDA, 1);
+Node *lambda_of(Position at, Symbol name, const Datum *parameters, size_t from, Place *place) {
     const bool is_list = parameters->kind == DATUM_LIST;
     const Datum *const rest = is_list ? parameters->tail : parameters;
     const size_t count = is_list ? parameters->count - from : 0;
-    if (parameters->kind == DATUM_VECTOR || parameters->kind == DATUM_STRING) fault(parameters->at, "parameters are wanted here");
+    if (!is_list && !is_symbol(parameters)) fault(parameters->at, "parameters are wanted here");
     if (count > ARGUMENTS_MOST) fault(parameters->at, "more than %d parameters", ARGUMENTS_MOST);
-    lambda->name = name;
+    Node *const lambda = lambda_node(at, name, count + (rest != NULL));
     lambda->has_rest = rest != NULL;
-    lambda->variable_count = (unsigned)count + lambda->has_rest;
-    lambda->variables = arena_take((lambda->variable_count + 1) * sizeof(Variable *));
+    *place = not_last(*place);
     for (size_t i = 0; i < lambda->variable_count; i++) {
         const Datum *const parameter = i < count ? parameters->items[from + i] : rest;
         lambda->variables[i] = variable_of(want_name(parameter), true);
-        place = inner(place, lambda->variables[i]);
+        *place = inner(*place, lambda->variables[i]);
     }
+    return lambda;
+}
+
+static Node *parse_lambda_of(Position at, Symbol name, const Datum *parameters, size_t from, const Datum *form, size_t body, Place place) {
+    Node *const lambda = lambda_of(at, name, parameters, from, &place);
     lambda->nodes[0] = parse_body(form, body, place);
     return lambda;
 }
 
-static Node *parse_lambda(const Datum *form, Place place) {
+Node *parse_lambda(const Datum *form, Place place) {
     want_items(form, 3, SIZE_MAX);
-    return parse_lambda_of(form->at, symbol("lambda"), form->items[1], 0, form, 2, not_last(place));
+    return parse_lambda_of(form->at, symbol("lambda"), form->items[1], 0, form, 2, place);
 }
 
 /* What a definition defines: its second part is a name, or a list that begins with one. */
-static Symbol defined_name(const Datum *form) {
+Symbol defined_name(const Datum *form) {
     if (form->count < 2 || form->tail) fault(form->at, "define: a wrong number of parts");
     const Datum *const what = form->items[1];
     if (what->kind == DATUM_LIST && what->count) return want_name(what->items[0]);
@@ -295,64 +335,24 @@ static Symbol defined_name(const Datum *form) {
     return want_name(what);
 }
 
-static bool defines_procedure(const Datum *form) {
-    return form->items[1]->kind == DATUM_LIST || (form->count == 3 && is_form(form->items[2], "lambda"));
-}
-
-static Node *defined_value(const Datum *form, Place place) {
+Node *defined_value(const Datum *form, Place place) {
     const Datum *const what = form->items[1];
     if (what->kind == DATUM_LIST) {
         if (form->count < 3) fault(form->at, "define: a procedure without a body");
-        return parse_lambda_of(form->at, name_of(what->items[0]), what, 1, form, 2, not_last(place));
+        return parse_lambda_of(form->at, name_of(what->items[0]), what, 1, form, 2, place);
     }
     if (form->count == 2) return word_node(form->at, UNSPECIFIED);
     Node *const value = parse(form->items[2], not_last(place));
-    if (value->kind == NODE_LAMBDA) value->name = name_of(what);
+    if (value->kind == NODE_LAMBDA) value->name = base_of(name_of(what));
     return value;
 }
 
-static bool is_definition(const Datum *item, Place place) { return is_form(item, "define") && is_global(item->items[0], place); }
-
-static Node *parse_sequence(Position at, Datum **items, size_t count, Place place) {
+Node *parse_sequence(Position at, Datum **items, size_t count, Place place) {
     if (!count) fault(at, "an expression is wanted here");
     if (count == 1) return parse(items[0], place);
     Node *const sequence = node_at(at, NODE_SEQUENCE, count);
     for (size_t i = 0; i < count; i++) sequence->nodes[i] = parse(items[i], i + 1 < count ? not_last(place) : place);
     return sequence;
-}
-
-/* What stands before the last definition of a body; an expression there is the value of a variable that nothing knows. */
-static Node *parse_definitions(const Datum *form, size_t from, size_t count, Place place) {
-    Node *const letrec = node_at(form->at, NODE_LETREC, count + 1);
-    letrec->variable_count = (unsigned)count;
-    letrec->variables = arena_take(count * sizeof(Variable *));
-    for (size_t i = 0; i < count; i++) {
-        const Datum *const item = form->items[from + i];
-        letrec->variables[i] = variable_of(is_definition(item, place) ? defined_name(item) : symbol(" "), false);
-    }
-    for (size_t i = 0; i < count; i++) place = inner(place, letrec->variables[i]);
-    for (size_t i = 0; i < count; i++) {
-        const Datum *const item = form->items[from + i];
-        const bool is_defined = letrec->variables[i]->name != symbol(" ");
-        /* procedures that stand one behind another may refer to each other */
-        for (size_t k = i; k < count && is_defined && defines_procedure(item); k++) {
-            const Datum *const next = form->items[from + k];
-            if (letrec->variables[k]->name == symbol(" ") || !defines_procedure(next)) break;
-            letrec->variables[k]->is_defined = true;
-        }
-        letrec->nodes[i] = is_defined ? defined_value(item, not_last(place)) : parse(item, not_last(place));
-        letrec->variables[i]->is_defined = true;
-    }
-    letrec->nodes[count] = parse_sequence(form->at, form->items + from + count, form->count - from - count, place);
-    return letrec;
-}
-
-static Node *parse_body(const Datum *form, size_t from, Place place) {
-    size_t end = form->count;
-    if (form->tail) fault(form->at, "a form with a dot");
-    while (end > from && !is_definition(form->items[end - 1], place)) end--;
-    if (end > from) return parse_definitions(form, from, end - from, place);
-    return parse_sequence(form->at, form->items + from, form->count - from, place);
 }
 
 /* A binding is a list of a name and an expression. */
@@ -361,13 +361,6 @@ static const Datum *want_binding(const Datum *binding) {
     if (binding->count != 2) fault(binding->at, "a name and its value are wanted here");
     want_name(binding->items[0]);
     return binding;
-}
-
-static Node *let_node(Position at, size_t count) {
-    Node *const let = node_at(at, NODE_LET, count + 1);
-    let->variable_count = (unsigned)count;
-    let->variables = arena_take((count + 1) * sizeof(Variable *));
-    return let;
 }
 
 static Node *parse_letrec(const Datum *form, Place place) {
@@ -379,13 +372,15 @@ static Node *parse_letrec(const Datum *form, Place place) {
     for (size_t i = 0; i < bindings->count; i++) {
         const Datum *const binding = want_binding(bindings->items[i]);
         letrec->variables[i] = variable_of(name_of(binding->items[0]), false);
-        are_procedures = are_procedures && is_form(binding->items[1], "lambda");
         place = inner(place, letrec->variables[i]);
+    }
+    for (size_t i = 0; i < bindings->count; i++) {
+        are_procedures = are_procedures && form_of(bindings->items[i]->items[1], place) == parse_lambda;
     }
     for (size_t i = 0; i < bindings->count; i++) letrec->variables[i]->is_defined = are_procedures;
     for (size_t i = 0; i < bindings->count; i++) {
         letrec->nodes[i] = parse(bindings->items[i]->items[1], not_last(place));
-        if (letrec->nodes[i]->kind == NODE_LAMBDA) letrec->nodes[i]->name = letrec->variables[i]->name;
+        if (letrec->nodes[i]->kind == NODE_LAMBDA) letrec->nodes[i]->name = base_of(letrec->variables[i]->name);
         letrec->variables[i]->is_defined = true;
     }
     letrec->nodes[bindings->count] = parse_body(form, 2, place);
@@ -406,14 +401,6 @@ static Node *loop_node(Position at, Symbol name, size_t count) {
     node->loop->parameters = (unsigned)count;
     node->loop->is_broken = count > ARGUMENTS_MOST - 1;
     return node;
-}
-
-static Node *lambda_node(Position at, Symbol name, size_t count) {
-    Node *const lambda = node_at(at, NODE_LAMBDA, 1);
-    lambda->name = name;
-    lambda->variable_count = (unsigned)count;
-    lambda->variables = arena_take((count + 1) * sizeof(Variable *));
-    return lambda;
 }
 
 static Node *parse_named_let(const Datum *form, Place place) {
@@ -510,7 +497,7 @@ static Node *parse_or(const Datum *form, Place place) {
     return node;
 }
 
-static Node *parse_begin(const Datum *form, Place place) {
+Node *parse_begin(const Datum *form, Place place) {
     if (form->tail) fault(form->at, "a form with a dot");
     return parse_sequence(form->at, form->items + 1, form->count - 1, place);
 }
@@ -520,14 +507,14 @@ static Node *parse_when(const Datum *form, Place place) {
     Node *const test = parse(form->items[1], not_last(place));
     Node *const body = parse_sequence(form->at, form->items + 2, form->count - 2, place);
     Node *const nothing = word_node(form->at, UNSPECIFIED);
-    return is_named(form->items[0], "when") ? if_node(form->at, test, body, nothing) : if_node(form->at, test, nothing, body);
+    return strcmp(spelled(form), "when") == 0 ? if_node(form->at, test, body, nothing) : if_node(form->at, test, nothing, body);
 }
 
 /* (test => procedure): the procedure is called with the test's value, where that isn't false. */
 static Node *parse_arrow(const Datum *clause, Node *otherwise, Place place) {
     Node *const let = let_node(clause->at, 1);
     Node *const call = node_at(clause->at, NODE_CALL, 2);
-    let->variables[0] = variable_of(symbol(" "), true);
+    let->variables[0] = unnamed_variable();
     let->nodes[0] = parse(clause->items[0], not_last(place));
     call->nodes[0] = parse(clause->items[2], not_last(place));
     call->nodes[1] = local_node(clause->at, let->variables[0]);
@@ -537,18 +524,17 @@ static Node *parse_arrow(const Datum *clause, Node *otherwise, Place place) {
 
 static Node *parse_clause(const Datum *clause, Node *otherwise, Place place) {
     if (clause->count == 1) return or_node(parse(clause->items[0], not_last(place)), otherwise);
-    if (clause->count == 3 && is_named(clause->items[1], "=>")) return parse_arrow(clause, otherwise, place);
+    if (clause->count == 3 && is_keyword(clause->items[1], "=>", place)) return parse_arrow(clause, otherwise, place);
     Node *const test = parse(clause->items[0], not_last(place));
     return if_node(clause->at, test, parse_sequence(clause->at, clause->items + 1, clause->count - 1, place), otherwise);
 }
 
-static Node *parse_cond(const Datum *form, Place place) {
-    want_items(form, 2, SIZE_MAX);
-    Node *node = word_node(form->at, UNSPECIFIED);
-    for (size_t i = form->count; i > 1; i--) {
+Node *parse_clauses(const Datum *form, size_t from, Node *otherwise, Place place) {
+    Node *node = otherwise;
+    for (size_t i = form->count; i > from; i--) {
         const Datum *const clause = want_list(form->items[i - 1]);
         if (!clause->count) fault(clause->at, "a clause without a test");
-        if (is_named(clause->items[0], "else")) {
+        if (is_keyword(clause->items[0], "else", place)) {
             if (i != form->count) fault(clause->at, "else must be the last clause");
             node = parse_sequence(clause->at, clause->items + 1, clause->count - 1, place);
         } else {
@@ -558,6 +544,11 @@ static Node *parse_cond(const Datum *form, Place place) {
     return node;
 }
 
+static Node *parse_cond(const Datum *form, Place place) {
+    want_items(form, 2, SIZE_MAX);
+    return parse_clauses(form, 1, word_node(form->at, UNSPECIFIED), place);
+}
+
 static const Primitive *primitive_named(const char *name) {
     for (unsigned i = 0; i < primitive_count; i++) {
         if (strcmp(primitives[i].name, name) == 0) return &primitives[i];
@@ -565,12 +556,38 @@ static const Primitive *primitive_named(const char *name) {
     return NULL;
 }
 
+static Node *primitive_node(Position at, const Primitive *primitive, Node *const *operands, size_t count) {
+    const size_t all = count < primitive->most || primitive->adds_other ? count + 1 : count;
+    Node *const node = node_at(at, NODE_PRIMITIVE, all);
+    node->primitive = primitive;
+    for (size_t i = 0; i < count; i++) node->nodes[i] = operands[i];
+    if (all > count) node->nodes[count] = word_node(at, primitive->other);
+    if (primitive->swaps) {
+        Node *const first = node->nodes[0];
+        node->nodes[0] = node->nodes[1];
+        node->nodes[1] = first;
+    }
+    return node;
+}
+
+Node *primitive_of(Position at, const char *name, Node *const *operands, size_t count) {
+    return primitive_node(at, primitive_named(name), operands, count);
+}
+
 static Node *same_node(const Datum *datum, Variable *key) {
-    Node *const same = node_at(datum->at, NODE_PRIMITIVE, 2);
-    same->primitive = primitive_named("eqv?");
-    same->nodes[0] = local_node(datum->at, key);
-    same->nodes[1] = quote(datum);
-    return same;
+    Node *const operands[] = {local_node(datum->at, key), quote(datum)};
+    return primitive_of(datum->at, datum->kind == DATUM_REAL ? "eqv?" : "eq?", operands, 2);
+}
+
+/* What follows the data of a clause of `case`: a sequence, or an arrow and a procedure that gets the key. */
+static Node *parse_case_body(const Datum *clause, Variable *key, Place place) {
+    if (clause->count != 3 || !is_keyword(clause->items[1], "=>", place)) {
+        return parse_sequence(clause->at, clause->items + 1, clause->count - 1, place);
+    }
+    Node *const call = node_at(clause->at, NODE_CALL, 2);
+    call->nodes[0] = parse(clause->items[2], not_last(place));
+    call->nodes[1] = local_node(clause->at, key);
+    return call;
 }
 
 static Node *parse_case(const Datum *form, Place place) {
@@ -578,12 +595,12 @@ static Node *parse_case(const Datum *form, Place place) {
     Node *const let = let_node(form->at, 1);
     Node *node = word_node(form->at, UNSPECIFIED);
     let->nodes[0] = parse(form->items[1], not_last(place));
-    let->variables[0] = variable_of(symbol(" "), true);
+    let->variables[0] = unnamed_variable();
     for (size_t i = form->count; i > 2; i--) {
         const Datum *const clause = want_list(form->items[i - 1]);
         if (clause->count < 2) fault(clause->at, "a clause of case has data and an expression");
-        Node *const body = parse_sequence(clause->at, clause->items + 1, clause->count - 1, place);
-        if (is_named(clause->items[0], "else")) {
+        Node *const body = parse_case_body(clause, let->variables[0], place);
+        if (is_keyword(clause->items[0], "else", place)) {
             if (i != form->count) fault(clause->at, "else must be the last clause");
             node = body;
             continue;
@@ -637,41 +654,70 @@ static Node *parse_do(const Datum *form, Place place) {
     return finish_loop(node, place.tail);
 }
 
+/* A global that a program sets or defines is no primitive any more; where it defines a keyword, that is none either. */
+static void forget_primitive(Symbol name, bool is_definition) {
+    Global *const global = global_of(name);
+    if (is_prelude) return;
+    global->primitive = NULL;
+    if (is_definition || !global->is_keyword) global->form = NULL;
+    if (!is_definition) return;
+    global->is_keyword = false;
+    global->macro = NULL;
+}
+
 static Node *parse_set(const Datum *form, Place place) {
     want_items(form, 3, 3);
-    Variable *const variable = find_variable(place.scope, want_name(form->items[1]));
+    const Meaning meaning = meaning_of(want_name(form->items[1]), place.scope);
+    Variable *const variable = meaning.variable;
     Node *const set = node_at(form->at, variable ? NODE_SET_LOCAL : NODE_SET_TABLE, 1);
+    if (variable ? variable->macro != NULL : global_of(meaning.symbol)->macro != NULL) {
+        fault(form->items[1]->at, "%s is a keyword", symbol_name(base_of(name_of(form->items[1]))));
+    }
     if (variable) {
         variable->is_assigned = true;
         if (variable->loop) variable->loop->is_broken = true;
     } else {
-        global_of(name_of(form->items[1]))->primitive = NULL;
-        set->entry = entry_of(name_of(form->items[1]));
+        forget_primitive(meaning.symbol, false);
+        set->entry = entry_of(meaning.symbol);
     }
     set->variable = variable;
     set->nodes[0] = parse(form->items[2], not_last(place));
     return set;
 }
 
-static Node *parse_define(const Datum *form, Place place) {
-    if (place.scope || place.tail) fault(form->at, "a definition can't stand here");
-    const Symbol name = defined_name(form);
-    Global *const global = global_of(name);
-    if (!is_prelude) {
-        global->primitive = NULL;
-        global->form = NULL;
-        global->is_keyword = false;
-    }
-    Node *const set = node_at(form->at, NODE_SET_TABLE, 1);
+Node *set_global_node(Position at, Symbol name, Node *value) {
+    Node *const set = node_at(at, NODE_SET_TABLE, 1);
+    forget_primitive(base_of(name), true);
     set->defines = true;
-    set->entry = entry_of(name);
-    set->nodes[0] = defined_value(form, place);
+    set->entry = entry_of(base_of(name));
+    set->nodes[0] = value;
     return set;
+}
+
+void define_global_macro(Symbol name, Macro *macro) {
+    forget_primitive(name, true);
+    global_of(name)->macro = macro;
+}
+
+unsigned add_record(Position at, Symbol name, size_t fields) {
+    if (fields > OBJECT_MOST) fault(at, "more than %d fields of a record", OBJECT_MOST);
+    return machine_add_record(machine, (RecordType){.name = base_of(name), .fields = (unsigned)fields});
+}
+
+void want_outermost(const Datum *form, Place place) {
+    if (place.scope || place.tail) fault(form->at, "a definition can't stand here");
+}
+
+Node *parse_define(const Datum *form, Place place) {
+    want_outermost(form, place);
+    const Symbol name = defined_name(form);
+    forget_primitive(base_of(name), true); /* before its value is read, which may call it */
+    return set_global_node(form->at, name, defined_value(form, place));
 }
 
 static Node *parse_else(const Datum *form, Place place) {
     (void)place;
-    fault(form->at, "%s: can't stand here", symbol_name(name_of(form->items[0])));
+    fault(form->at, "%s: can't stand here", spelled(form));
 }
 
 /* Calls */
@@ -697,6 +743,12 @@ static Node *parse_cons_all(const Datum *form, Place place) {
     return form->count < 2 ? parse_call(form, place) : parse_spread(form, 1, place);
 }
 
+static Node *parse_values(const Datum *form, Place place) {
+    if (form->count == 2) return parse(form->items[1], not_last(place));
+    Node *const list = parse_list(form, place);
+    return primitive_of(form->at, "%list->values", &list, 1);
+}
+
 static Node *parse_vector(const Datum *form, Place place) { return call_of_global("list->vector", parse_list(form, place)); }
 
 static Node *parse_append(const Datum *form, Place place) {
@@ -707,13 +759,6 @@ static Node *parse_append(const Datum *form, Place place) {
     return call;
 }
 
-static Node *apply_node(Position at, Node *procedure, Node *list) {
-    Node *const apply = node_at(at, NODE_APPLY, 2);
-    apply->nodes[0] = procedure;
-    apply->nodes[1] = list;
-    return apply;
-}
-
 static Node *parse_apply(const Datum *form, Place place) {
     want_items(form, 3, SIZE_MAX);
     return apply_node(form->at, parse(form->items[1], not_last(place)), parse_spread(form, 2, place));
@@ -722,20 +767,17 @@ static Node *parse_apply(const Datum *form, Place place) {
 /* (cadr x) and its like: `car` and `cdr` by the letters between the first and the last, from the last on. */
 static Node *parse_path(const Datum *form, Place place) {
     if (form->count != 2) return parse_call(form, place);
-    const char *const name = symbol_name(name_of(form->items[0]));
+    const char *const name = spelled(form);
     Node *node = parse(form->items[1], not_last(place));
     for (size_t i = strlen(name) - 2; i > 0; i--) {
-        Node *const step = node_at(form->at, NODE_PRIMITIVE, 1);
-        step->primitive = primitive_named(name[i] == 'a' ? "car" : "cdr");
-        step->nodes[0] = node;
-        node = step;
+        node = primitive_of(form->at, name[i] == 'a' ? "car" : "cdr", &node, 1);
     }
     return node;
 }
 
 /* A loop whose call can be a jump here: each loop between knows that it is left. */
 static Loop *loop_here(const Datum *form, Place place) {
-    Variable *const variable = is_symbol(form->items[0]) ? find_variable(place.scope, name_of(form->items[0])) : NULL;
+    Variable *const variable = is_symbol(form->items[0]) ? meaning_of(name_of(form->items[0]), place.scope).variable : NULL;
     if (!variable || !variable->loop || variable->loop->parameters != form->count - 1) return NULL;
     const Tail *tail = place.tail;
     while (tail && tail->loop != variable->loop) tail = tail->outer;
@@ -757,20 +799,6 @@ static Node *parse_call(const Datum *form, Place place) {
     return call;
 }
 
-static Node *primitive_node(Position at, const Primitive *primitive, Node **operands, size_t count) {
-    const size_t all = count < primitive->most || primitive->adds_other ? count + 1 : count;
-    Node *const node = node_at(at, NODE_PRIMITIVE, all);
-    node->primitive = primitive;
-    for (size_t i = 0; i < count; i++) node->nodes[i] = operands[i];
-    if (all > count) node->nodes[count] = word_node(at, primitive->other);
-    if (primitive->swaps) {
-        Node *const first = node->nodes[0];
-        node->nodes[0] = node->nodes[1];
-        node->nodes[1] = first;
-    }
-    return node;
-}
-
 /* A call of a primitive; of one with another number of arguments than the machine's, where it folds; else it is a call as any other. */
 static Node *parse_primitive(const Datum *form, const Primitive *primitive, Place place) {
     const size_t count = form->count - 1;
@@ -787,18 +815,27 @@ static Node *parse_primitive(const Datum *form, const Primitive *primitive, Plac
     return node;
 }
 
-static Node *parse(const Datum *datum, Place place) {
+static Node *parse_form(const Datum *form, Place place) {
+    if (!form->count) fault(form->at, "() is no expression");
+    if (is_symbol(form->items[0])) {
+        const Meaning meaning = meaning_of(name_of(form->items[0]), place.scope);
+        const Global *const global = meaning.variable ? NULL : global_of(meaning.symbol);
+        if (global && global->form) return global->form(form, place);
+        if (form->tail) fault(form->at, "a call with a dot");
+        if (global && global->primitive) return parse_primitive(form, global->primitive, place);
+    }
+    if (form->tail) fault(form->at, "a call with a dot");
+    return parse_call(form, place);
+}
+
+Node *parse(const Datum *datum, Place place) {
+    datum = expanded(datum, place);
     if (is_symbol(datum)) return parse_reference(datum, place);
     if (datum->kind != DATUM_LIST) return quote(datum);
-    if (!datum->count) fault(datum->at, "() is no expression");
-    if (is_global(datum->items[0], place)) {
-        const Global *const global = global_of(name_of(datum->items[0]));
-        if (global->form) return global->form(datum, place);
-        if (datum->tail) fault(datum->at, "a call with a dot");
-        if (global->primitive) return parse_primitive(datum, global->primitive, place);
-    }
-    if (datum->tail) fault(datum->at, "a call with a dot");
-    return parse_call(datum, place);
+    if (++depth_of_parse > DEPTH_MOST) fault(datum->at, "forms within forms, more than %d deep", DEPTH_MOST);
+    Node *const node = parse_form(datum, place);
+    depth_of_parse--;
+    return node;
 }
 
 static const struct {
@@ -806,19 +843,43 @@ static const struct {
     Form *form;
     bool is_keyword;
 } forms[] = {
-    {"quote", parse_quote, true},       {"quasiquote", parse_quasiquote, true},
-    {"lambda", parse_lambda, true},     {"define", parse_define, true},
-    {"set!", parse_set, true},          {"if", parse_if, true},
-    {"cond", parse_cond, true},         {"case", parse_case, true},
-    {"and", parse_and, true},           {"or", parse_or, true},
-    {"when", parse_when, true},         {"unless", parse_when, true},
-    {"begin", parse_begin, true},       {"let", parse_let, true},
-    {"let*", parse_let_in_order, true}, {"letrec", parse_letrec, true},
-    {"letrec*", parse_letrec, true},    {"do", parse_do, true},
-    {"else", parse_else, true},         {"=>", parse_else, true},
-    {"unquote", parse_else, true},      {"unquote-splicing", parse_else, true},
-    {"list", parse_list, false},        {"cons*", parse_cons_all, false},
-    {"vector", parse_vector, false},    {"append", parse_append, false},
+    {"quote", parse_quote, true},
+    {"quasiquote", parse_quasiquote, true},
+    {"lambda", parse_lambda, true},
+    {"define", parse_define, true},
+    {"define-values", parse_define_values, true},
+    {"define-record-type", parse_define_record, true},
+    {"define-syntax", parse_define_syntax, true},
+    {"let-syntax", parse_let_syntax, true},
+    {"letrec-syntax", parse_let_syntax, true},
+    {"syntax-rules", parse_else, true},
+    {"syntax-error", parse_syntax_error, true},
+    {"set!", parse_set, true},
+    {"if", parse_if, true},
+    {"cond", parse_cond, true},
+    {"case", parse_case, true},
+    {"and", parse_and, true},
+    {"or", parse_or, true},
+    {"when", parse_when, true},
+    {"unless", parse_when, true},
+    {"begin", parse_begin, true},
+    {"let", parse_let, true},
+    {"let*", parse_let_in_order, true},
+    {"let-values", parse_let_values, true},
+    {"let*-values", parse_let_values_in_order, true},
+    {"letrec", parse_letrec, true},
+    {"letrec*", parse_letrec, true},
+    {"do", parse_do, true},
+    {"guard", parse_guard, true},
+    {"else", parse_else, true},
+    {"=>", parse_else, true},
+    {"unquote", parse_else, true},
+    {"unquote-splicing", parse_else, true},
+    {"list", parse_list, false},
+    {"cons*", parse_cons_all, false},
+    {"values", parse_values, false},
+    {"vector", parse_vector, false},
+    {"append", parse_append, false},
     {"apply", parse_apply, false},
 };
 
@@ -847,14 +908,17 @@ void syntax_open(Machine *of) {
 void syntax_close(void) {
     free(globals);
     free(constants);
+    macros_close();
 }
 
 void syntax_end_prelude(void) { is_prelude = false; }
 
 /* Definitions within a `begin` of the outermost level are of that level too. */
-static Node *parse_outermost(const Datum *form) {
+Node *parse_outermost(const Datum *form) {
     const Place outermost = {0};
-    if (!is_form(form, "begin") || form->count < 2 || form->tail) return parse(form, outermost);
+    form = expanded(form, outermost);
+    if (form_of(form, outermost) != parse_begin || form->tail) return parse(form, outermost);
+    if (form->count == 1) return word_node(form->at, UNSPECIFIED);
     Node *const sequence = node_at(form->at, NODE_SEQUENCE, form->count - 1);
     for (size_t i = 1; i < form->count; i++) sequence->nodes[i - 1] = parse_outermost(form->items[i]);
     return sequence;
@@ -862,6 +926,7 @@ static Node *parse_outermost(const Datum *form) {
 
 Node *syntax_of(const Datum *form) {
     constant_count = 0;
+    depth_of_parse = 0;
     Node *const node = parse_outermost(form);
     if (!constant_count) return node;
     Node *const sequence = node_at(form->at, NODE_SEQUENCE, constant_count + 1);
@@ -870,7 +935,4 @@ Node *syntax_of(const Datum *form) {
     return sequence;
 }
 
-Node *syntax_prompt(const Datum *form) {
-    Node *const node = syntax_of(form);
-    return is_definition(form, (Place){0}) ? node : call_of_global("%write-line", node);
-}
+Node *syntax_prompt(const Datum *form) { return call_of_global("%write-line", syntax_of(form)); }

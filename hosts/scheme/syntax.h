@@ -7,9 +7,12 @@
 #include "primitives.h"
 #include "reader.h"
 
-/* A local variable. */
+typedef struct macro Macro;
+
+/* A local variable, or a macro that is bound as one. */
 typedef struct variable {
     Symbol name;
+    Macro *macro;     /* or null */
     bool is_assigned; /* it may change, or be used before its definition: then it stands in a slot */
     bool is_defined;  /* its definition has been read */
     struct loop *loop;
@@ -86,5 +89,8 @@ Node *syntax_prompt(const Datum *form);
 
 /* A global has a value without a reference. */
 void syntax_define(const char *name, Word word);
+
+/* The table's entry of a global. */
+unsigned syntax_entry(const char *name);
 
 #endif

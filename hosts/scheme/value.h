@@ -28,7 +28,11 @@ typedef enum kind {
     KIND_VECTOR,       /* payload: its length */
     KIND_STRING,       /* payload: its length in bytes */
     KIND_CONTINUATION, /* a reference to its frame */
-    KIND_SLOTS         /* variables that are assigned; a program never sees one */
+    KIND_SLOTS,        /* variables that are assigned; a program never sees one */
+    KIND_VALUES,       /* several values, or none: a reference to the first pair of their list */
+    KIND_RECORD,       /* payload: its type; the type itself has no reference */
+    KIND_REAL,         /* an object of one word, a double */
+    KIND_PORT          /* payload: which one; a reference where that reads or writes a string */
 } Kind;
 
 enum { TAG_INTEGER = 0, TAG_PLAIN = 1, TAG_REFERENCE = 2, TAG_MASK = 3, KIND_SHIFT = 2, KIND_MASK = 63, PAYLOAD_SHIFT = 8 };
@@ -41,9 +45,19 @@ enum { TAG_INTEGER = 0, TAG_PLAIN = 1, TAG_REFERENCE = 2, TAG_MASK = 3, KIND_SHI
 #define TRUE PLAIN(KIND_CONSTANT, 2)
 #define UNSPECIFIED PLAIN(KIND_CONSTANT, 3)
 #define UNDEFINED PLAIN(KIND_CONSTANT, 4) /* what a variable holds before its definition */
+#define END_OF_FILE PLAIN(KIND_CONSTANT, 5)
+#define STANDARD_OUTPUT PLAIN(KIND_PORT, 0)
+#define STANDARD_ERROR PLAIN(KIND_PORT, 1)
+#define STANDARD_INPUT PLAIN(KIND_PORT, 2)
+#define OUTPUT_STRING REFERENCE(KIND_PORT, 0)
+#define INPUT_STRING REFERENCE(KIND_PORT, 1)
 #define PAIR REFERENCE(KIND_PAIR, 0)
 #define CONTINUATION REFERENCE(KIND_CONTINUATION, 0)
+#define CONTINUATION_WITH_STATE REFERENCE(KIND_CONTINUATION, 1) /* a reference to an object that has its frame and its dynamic state */
 #define SLOTS REFERENCE(KIND_SLOTS, 0)
+#define REAL REFERENCE(KIND_REAL, 0)
+#define VALUES REFERENCE(KIND_VALUES, 0)
+#define NO_VALUES PLAIN(KIND_VALUES, 0)
 
 #define INTEGER_MOST (INT64_MAX >> 2)
 #define INTEGER_LEAST (-INTEGER_MOST - 1)
@@ -60,6 +74,9 @@ static inline uint64_t payload(Word word) { return word >> PAYLOAD_SHIFT; }
 static inline Word integer(int64_t number) { return (Word)number << 2; }
 
 static inline int64_t number(Word word) { return (int64_t)word >> 2; }
+
+/* The word of all records of a type. */
+static inline Word record_of_type(Word type) { return type ^ TAG_PLAIN ^ TAG_REFERENCE; }
 
 static inline Word boolean(bool is) { return is ? TRUE : FALSE; }
 

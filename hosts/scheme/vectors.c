@@ -40,9 +40,19 @@ void vector_set(Machine *machine, unsigned vector, unsigned index, unsigned valu
 }
 
 static void make_part(Machine *machine, unsigned dest, unsigned length, unsigned fill) {
-    machine_new(machine, dest, length, length);
-    if (!machine->word[fill]) return;
-    for (unsigned i = 0; i < length; i++) machine_begin(machine, dest, i, fill);
+    uint32_t sources[OBJECT_MOST];
+    Word data[OBJECT_MOST];
+    const Word word = machine->word[fill];
+    for (unsigned i = 0; i < length; i++) {
+        sources[i] = fill;
+        data[i] = word;
+    }
+    if (is_reference(word)) {
+        machine_new_with(machine, dest, sources, length, data, length);
+    } else {
+        machine_new(machine, dest, length, length);
+        if (word) memory_put_many(dest, 0, data, length);
+    }
 }
 
 void make_vector(Machine *machine, unsigned dest, unsigned length_operand, unsigned fill, unsigned unused) {
