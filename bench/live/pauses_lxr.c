@@ -2,12 +2,14 @@
  *
  * usage: pauses_lxr MEGABYTES acyclic|cyclic ROUNDS EVERY
  *
- * EVERY is how many operations a thread makes between two pauses. All are home once the last thread has come for a pause; the
- * pause itself goes on until all can go on. A trace begins when dead cycles have taken about two thirds of what is free, and
- * has half of the time to the next. */
+ * EVERY is how many operations a thread makes between two pauses. A trace begins then when dead cycles have taken about two thirds
+ * of what is free, and has half of the time to the next. With `default` in its place the settings are those of the header, with their
+ * pace by bytes, but for the helpers. All are home once the last thread has come for a pause; the pause itself goes on until all can go
+ * on. */
 #include <lxr_threads.h>
 #include <pthread.h>
 #include <stdatomic.h>
+#include <string.h>
 
 #include "work.h"
 
@@ -96,18 +98,25 @@ static uint32_t pauses_between_traces(uint32_t every) {
     return pauses < 2 ? 2 : pauses;
 }
 
+static lxr_shared_heap_settings settings_of(const char *every) {
+    lxr_shared_heap_settings settings = LXR_SHARED_HEAP_SETTINGS(work.megabytes * 2000000u / 32768u, THREADS);
+    settings.helpers = HELPERS;
+    settings.paused = on_pause;
+    if (strcmp(every, "default") == 0) return settings;
+    settings.log = 8192;
+    settings.every = (uint32_t)strtoul(every, NULL, 10);
+    settings.trace = pauses_between_traces(settings.every);
+    settings.within = settings.trace / 2;
+    settings.pace = LXR_PACE_NEVER;
+    return settings;
+}
+
 int main(int count, char **words) {
     pthread_t started[THREADS];
     char name[40];
     if (count != 5) return 2;
     work = work_of(4, words);
-    lxr_shared_heap_settings settings = LXR_SHARED_HEAP_SETTINGS(work.megabytes * 2000000u / 32768u, THREADS);
-    settings.helpers = HELPERS;
-    settings.log = 8192;
-    settings.every = (uint32_t)strtoul(words[4], NULL, 10);
-    settings.trace = pauses_between_traces(settings.every);
-    settings.within = settings.trace / 2;
-    settings.paused = on_pause;
+    lxr_shared_heap_settings settings = settings_of(words[4]);
     must(lxr_shared_heap_open(&heap, &settings));
     pthread_barrier_init(&barrier, NULL, THREADS + 1);
     for (uintptr_t at = 0; at < THREADS; at++) pthread_create(&started[at], NULL, run, (void *)at);
@@ -120,7 +129,7 @@ int main(int count, char **words) {
     for (uint32_t at = 0; at < THREADS; at++) pthread_join(started[at], NULL);
     pthread_barrier_destroy(&barrier);
     must(lxr_shared_heap_close(&heap));
-    snprintf(name, sizeof name, "this collector, every %u", settings.every);
+    snprintf(name, sizeof name, "this collector, %s%s", strcmp(words[4], "default") == 0 ? "" : "every ", words[4]);
     print_row(name, work, &home, &pause, taken);
     return 0;
 }
