@@ -164,7 +164,7 @@ const char *const prelude[] = {
     "  (write-char #\\# port) (%write-atom (cdr label) #f port) (write-char mark port))",
     "(define (%write-rest x quoted? port labels)"
     "  (cond ((null? x) (write-char #\\) port))"
-    "        ((and (pair? x) (not (%label-of x (cdr labels))))"
+    "        ((and (pair? x) (or (null? (cdr labels)) (not (%label-of x (cdr labels)))))"
     "         (write-char #\\space port) (%write (car x) quoted? port labels) (%write-rest (cdr x) quoted? port labels))"
     "        (else (%write-atom \" . \" #f port) (%write x quoted? port labels) (write-char #\\) port))))",
     "(define (%write-vector v i quoted? port labels)"
@@ -179,7 +179,7 @@ const char *const prelude[] = {
     "        ((%record? x %error) (%write-atom \"#<error: \" #f port) (%write-error x port) (write-char #\\> port))"
     "        (else (%write-atom x quoted? port))))",
     "(define (%write x quoted? port labels)"
-    "  (let ((label (%label-of x (cdr labels))))"
+    "  (let ((label (and (pair? (cdr labels)) (%label-of x (cdr labels)))))"
     "    (if (and label (cdr label)) (%write-label label #\\# port)"
     "        (begin"
     "          (if label"
