@@ -28,6 +28,7 @@ pub struct Applied {
 }
 
 /// A test as a word.
+#[inline(always)]
 fn flag(test: bool) -> u64
     ensures { result ≡ is_flag test }
 {
@@ -35,6 +36,7 @@ fn flag(test: bool) -> u64
 }
 
 /// The word that a reply tells, if it does.
+#[inline(always)]
 fn word_of(reply: LargeReply) -> Option<u64>
     ensures { result ≡ applying.word_of reply }
 {
@@ -46,6 +48,7 @@ fn word_of(reply: LargeReply) -> Option<u64>
 }
 
 /// What a reply tells.
+#[inline(always)]
 fn told_by(reply: LargeReply) -> Told
     ensures { result ≡ applying.told_by reply }
 {
@@ -56,6 +59,7 @@ fn told_by(reply: LargeReply) -> Told
 }
 
 /// Does what is asked for.
+#[inline(always)]
 fn perform(heap: &mut HostHeap, asked: Asked) -> Told
     requires serving { IsServing heap.old }
     requires asked { MayBeAsked asked }
@@ -75,6 +79,7 @@ fn perform(heap: &mut HostHeap, asked: Asked) -> Told
 }
 
 /// Does what an entry asks for, and writes the word that this tells into it.
+#[inline(always)]
 fn perform_at(heap: &mut HostHeap, entry: &mut Operation) -> Code
     requires serving { IsServing heap.old }
     requires asks { Asks entry.old }

@@ -38,6 +38,7 @@ pub enum Asked {
 }
 
 /// An object is asked for.
+#[inline(always)]
 fn make(request: Result<LargeOp, Code>) -> Result<Asked, Code>
     requires { IfOk request IsMaking }
     ensures asked { result ≡ as_asked asked.Make request }
@@ -50,6 +51,7 @@ fn make(request: Result<LargeOp, Code>) -> Result<Asked, Code>
 }
 
 /// A store is asked for.
+#[inline(always)]
 fn store(request: Result<LargeOp, Code>) -> Result<Asked, Code>
     requires { IfOk request IsStoring }
     ensures asked { result ≡ as_asked asked.Store request }
@@ -62,6 +64,7 @@ fn store(request: Result<LargeOp, Code>) -> Result<Asked, Code>
 }
 
 /// An operation is asked for that makes no object and stores no reference.
+#[inline(always)]
 fn reply(request: Result<LargeOp, Code>) -> Result<Asked, Code>
     requires { IfOk request IsQuiet }
     ensures asked { result ≡ as_asked asked.Reply request }
@@ -74,6 +77,7 @@ fn reply(request: Result<LargeOp, Code>) -> Result<Asked, Code>
 }
 
 /// A look is asked for.
+#[inline(always)]
 fn see(request: Result<LargeOp, Code>) -> Result<Asked, Code>
     requires { IfOk request IsLook }
     ensures asked { result ≡ as_asked asked.See request }
@@ -86,6 +90,7 @@ fn see(request: Result<LargeOp, Code>) -> Result<Asked, Code>
 }
 
 /// It is asked whether a register is nil.
+#[inline(always)]
 fn is_nil(register: u32) -> Result<Asked, Code>
     ensures asked { result ≡ applying.nil_asked register }
     ensures may { IfOk result MayBeAsked }
@@ -97,6 +102,7 @@ fn is_nil(register: u32) -> Result<Asked, Code>
 }
 
 /// What an entry asks for, or what is wrong with its numbers.
+#[inline(always)]
 pub(crate) fn asked_of(entry: Operation) -> Result<Asked, Code>
     ensures asked { result ≡ applying.asked_of entry }
     ensures may { IfOk result MayBeAsked }

@@ -11,6 +11,7 @@ use lxr_c_base::requests::register_of;
 use lxr_heap::{BodyReply, LargeHeap};
 
 /// Whether an object with so many fields of a kind has these: so many from `first` on.
+#[inline(always)]
 fn has_all(most: u16, first: u32, count: usize) -> bool
     ensures all { result ≡ nat_le (first + count) most }
     ensures few { IsTrue result → first + count < 2 ^ 16 }
@@ -21,6 +22,7 @@ fn has_all(most: u16, first: u32, count: usize) -> bool
 }
 
 /// What a call comes to, by whether all fields are there.
+#[inline(always)]
 fn reply_of(found: bool) -> BodyReply
     ensures { result ≡ (if found then body_reply.Done else body_reply.Range) }
 {
@@ -32,6 +34,7 @@ fn reply_of(found: bool) -> BodyReply
 }
 
 /// Whether what `base` holds has so many data words from `first` on.
+#[inline(always)]
 pub(crate) fn find_words(heap: &LargeHeap, base: u8, first: u32, count: usize) -> BodyReply
     requires { base < 16 }
     ensures found { (h : List LargeItem) → IsHeapOf heap.now h → result ≡ comes_to (words_in (large_state h) base) first count }
@@ -44,6 +47,7 @@ pub(crate) fn find_words(heap: &LargeHeap, base: u8, first: u32, count: usize) -
 }
 
 /// Whether what `base` holds has so many references from `first` on.
+#[inline(always)]
 pub(crate) fn find_references(heap: &LargeHeap, base: u8, first: u32, count: usize) -> BodyReply
     requires { base < 16 }
     ensures found { (h : List LargeItem) → IsHeapOf heap.now h → result ≡ comes_to (references_in (large_state h) base) first count }
@@ -56,6 +60,7 @@ pub(crate) fn find_references(heap: &LargeHeap, base: u8, first: u32, count: usi
 }
 
 /// Whether these are registers.
+#[inline(always)]
 fn are_registers(registers: &[u32]) -> bool
     ensures { result ≡ fields.are_registers registers.now }
 {
@@ -63,6 +68,7 @@ fn are_registers(registers: &[u32]) -> bool
 }
 
 /// The base of stores from these registers.
+#[inline(always)]
 pub(crate) fn base_of_stores(base: u32, sources: &[u32]) -> Result<u8, Code>
     ensures base { result ≡ fields.base_of_stores base sources.now }
     ensures small { IfOk result (λ b. b < 16) }
@@ -75,6 +81,7 @@ pub(crate) fn base_of_stores(base: u32, sources: &[u32]) -> Result<u8, Code>
 }
 
 /// Whether none of these registers but the last is the base.
+#[inline(always)]
 fn leave_base(base: u32, targets: &[u32]) -> bool
     ensures { result ≡ fields.leave_base base targets.now }
 {
@@ -83,6 +90,7 @@ fn leave_base(base: u32, targets: &[u32]) -> bool
 }
 
 /// The base of loads to these registers.
+#[inline(always)]
 pub(crate) fn base_of_loads(base: u32, targets: &[u32]) -> Result<u8, Code>
     ensures base { result ≡ fields.base_of_loads base targets.now }
     ensures small { IfOk result (λ b. b < 16) }

@@ -17,6 +17,7 @@ use lxr_c_heap::{Handle, HostHeap};
 use lxr_heap::BodyReply;
 
 /// Loads references, where they are all there.
+#[inline(always)]
 fn load_all(heap: &mut HostHeap, base: u8, first: u16, targets: &[u32])
     requires serving { IsServing heap.old }
     requires base { base < 16 }
@@ -33,6 +34,7 @@ fn load_all(heap: &mut HostHeap, base: u8, first: u16, targets: &[u32])
 }
 
 /// Stores to references, on the condition that they are all there and that the log has room for what this records.
+#[inline(always)]
 pub(crate) fn store_all(heap: &mut HostHeap, base: u8, first: u16, sources: &[u32])
     requires serving { IsServing heap.old }
     requires base { base < 16 }
@@ -49,6 +51,7 @@ pub(crate) fn store_all(heap: &mut HostHeap, base: u8, first: u16, sources: &[u3
 }
 
 /// Loads references of what `base` holds, from `first` on: all of them or none.
+#[inline(always)]
 fn load(heap: &mut HostHeap, base: u8, first: u32, targets: &[u32]) -> BodyReply
     requires serving { IsServing heap.old }
     requires base { base < 16 }
@@ -67,6 +70,7 @@ fn load(heap: &mut HostHeap, base: u8, first: u32, targets: &[u32]) -> BodyReply
 }
 
 /// Stores to references of what `base` holds, from `first` on: all of them or none. A pause is made before them where the log has no room.
+#[inline(always)]
 fn store(heap: &mut HostHeap, base: u8, first: u32, sources: &[u32]) -> BodyReply
     requires serving { IsServing heap.old }
     requires base { base < 16 }

@@ -19,6 +19,7 @@ use lxr_c_heap::{Handle, HostHeap};
 use lxr_heap::{BodyReply, LargeHeap};
 
 /// Reads data words, on the condition that they are all there.
+#[inline(always)]
 fn read_all(heap: &LargeHeap, base: u8, first: u16, words: &mut [u64])
     requires holds { ∥ ((h : List LargeItem) × IsHeapOf heap.now h) ∥₁ }
     requires base { base < 16 }
@@ -32,6 +33,7 @@ fn read_all(heap: &LargeHeap, base: u8, first: u16, words: &mut [u64])
 }
 
 /// Writes data words, where they are all there.
+#[inline(always)]
 pub(crate) fn write_all(heap: &mut HostHeap, base: u8, first: u16, words: &[u64])
     requires serving { IsServing heap.old }
     requires base { base < 16 }
@@ -46,6 +48,7 @@ pub(crate) fn write_all(heap: &mut HostHeap, base: u8, first: u16, words: &[u64]
 }
 
 /// Reads data words of what `base` holds, from `first` on, as many as there is room for: all of them or none.
+#[inline(always)]
 fn read(heap: &LargeHeap, base: u8, first: u32, words: &mut [u64]) -> BodyReply
     requires holds { ∥ ((h : List LargeItem) × IsHeapOf heap.now h) ∥₁ }
     requires base { base < 16 }
@@ -62,6 +65,7 @@ fn read(heap: &LargeHeap, base: u8, first: u32, words: &mut [u64]) -> BodyReply
 }
 
 /// Writes over data words of what `base` holds, from `first` on: all of them or none.
+#[inline(always)]
 fn write(heap: &mut HostHeap, base: u8, first: u32, words: &[u64]) -> BodyReply
     requires serving { IsServing heap.old }
     requires base { base < 16 }
