@@ -203,7 +203,7 @@ static inline void machine_new(const Machine *machine, unsigned dest, unsigned r
 
 static inline void machine_new_with(const Machine *machine, unsigned dest, const uint32_t *sources, size_t references, const Word *data,
                                     size_t words) {
-    if (!memory_new_with(dest, sources, references, data, words)) machine_fault(machine, "the heap is full");
+    if (!memory_new_with(dest, sources, references, data, words)) machine_full(machine);
 }
 
 #endif
