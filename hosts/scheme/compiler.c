@@ -214,7 +214,7 @@ static void deliver(Unit *unit, unsigned dest, unsigned place) {
 static void deliver_word(Unit *unit, unsigned dest, Word word) {
     if (dest == NOWHERE) return;
     unsigned place = machine_constant(unit->machine, word);
-    if (!place) emit(unit, OP_WORD, place = written(dest), 0, 0, (int64_t)machine_add_word(unit->machine, word));
+    if (!place) emit(unit, OP_WORD, place = written(dest), 0, 0, (int64_t)machine_add_word(word));
     deliver(unit, dest, place);
 }
 
@@ -504,9 +504,9 @@ static void compile_again(Unit *unit, Node *node) {
 
 /* The code of a procedure goes to the machine. */
 static unsigned finish_unit(const Unit *unit, Symbol name, unsigned parameters, bool has_rest) {
-    const size_t entry = unit->machine->instruction_count;
-    for (size_t i = 0; i < unit->count; i++) machine_add_instruction(unit->machine, unit->instructions[i], unit->positions[i]);
-    return machine_add_code(unit->machine, (Code){.entry = entry, .parameters = parameters, .has_rest = has_rest, .name = name});
+    const size_t entry = program.instruction_count;
+    for (size_t i = 0; i < unit->count; i++) machine_add_instruction(unit->instructions[i], unit->positions[i]);
+    return machine_add_code((Code){.entry = entry, .parameters = parameters, .has_rest = has_rest, .name = name});
 }
 
 /* The code of a procedure, and in the unit what it captures. */
@@ -523,7 +523,7 @@ static void make_closure(Unit *unit, const Unit *inner, unsigned code, unsigned 
     if (inner->captured_count) {
         emit(unit, OP_CLOSURE, place, inner->captured_count, 0, code);
     } else {
-        emit(unit, OP_WORD, place, 0, 0, (int64_t)machine_add_word(unit->machine, PLAIN(KIND_PROCEDURE, code)));
+        emit(unit, OP_WORD, place, 0, 0, (int64_t)machine_add_word(PLAIN(KIND_PROCEDURE, code)));
     }
 }
 
@@ -640,7 +640,7 @@ static void compile_slot_value(Unit *unit, Node *node, unsigned which, unsigned 
 static void compile_letrec(Unit *unit, Node *node, unsigned dest, unsigned live) {
     const unsigned count = node->variable_count;
     const bool are_slots = count > LETREC_REGISTERS || free_count(unit) < count + SPARE;
-    if (count > OBJECT_MOST) fault(node->at, "more than %d definitions in one body", OBJECT_MOST);
+    if (count > FIELDS_MOST) fault(node->at, "more than %d definitions in one body", FIELDS_MOST);
     if (are_slots) {
         const unsigned place = take_any(unit);
         emit(unit, OP_SLOTS, place, 0, 0, count);

@@ -1,22 +1,40 @@
 /*
  * Several values, continuations, faults and the end. SPDX: MIT OR Apache-2.0
  *
- * Several values are one value, whose reference is that of a list of them. What `dynamic-wind` and handlers of exceptions need is the
- * prelude's: a list, the dynamic state, which a global holds and continuations keep.
+ * Several values are one value, whose reference is that of a list of them, or, where an object says which value it is, of another first
+ * pair. What `dynamic-wind` and handlers of exceptions need is the prelude's: a list, the dynamic state, which a global holds and
+ * continuations keep.
  */
 #include "primitives.h"
 
 enum { COLUMN_BITS = 29 };
 
+/* A register becomes what another one holds, as a value with another word: a list as several values, or these as a list. */
+static void retell(Machine *machine, unsigned dest, unsigned source, Word word) {
+    if (!HEAD_WORDS) {
+        machine_move(machine, dest, source);
+        machine_set(machine, dest, word);
+        return;
+    }
+    machine_new(machine, REGISTER_NIL, 2, 2 + HEAD_WORDS); /* is nil again below */
+    machine_head(REGISTER_NIL, word);
+    for (unsigned field = 0; field < 2; field++) {
+        machine_load(machine, REGISTER_SCRATCH, source, field);
+        machine_begin(machine, REGISTER_NIL, field, REGISTER_SCRATCH);
+    }
+    memory_move(dest, REGISTER_NIL);
+    memory_nil(REGISTER_NIL);
+    machine_hold(machine, dest, word);
+}
+
 void values_of_list(Machine *machine, unsigned dest, unsigned list) {
     const Word word = machine->word[list];
     if (word != PAIR) {
         machine_set(machine, dest, NO_VALUES);
-    } else if (memory_get(list, 1) == EMPTY_LIST) {
+    } else if (machine_peek(machine, list, 1) == EMPTY_LIST) {
         machine_load(machine, dest, list, 0);
     } else {
-        machine_move(machine, dest, list);
-        machine_set(machine, dest, VALUES);
+        retell(machine, dest, list, VALUES);
     }
 }
 
@@ -33,13 +51,11 @@ void list_of_values(Machine *machine, unsigned dest, unsigned values, unsigned u
     if (word == NO_VALUES) {
         machine_set(machine, dest, EMPTY_LIST);
     } else if (word == VALUES) {
-        machine_move(machine, dest, values);
-        machine_set(machine, dest, PAIR);
+        retell(machine, dest, values, PAIR);
     } else {
-        machine_new(machine, REGISTER_SCRATCH, 2, 2);
+        machine_make_empty(machine, REGISTER_SCRATCH, PAIR, 2);
         machine_begin(machine, REGISTER_SCRATCH, 0, values);
-        memory_put(REGISTER_SCRATCH, 1, EMPTY_LIST);
-        machine_hold(machine, REGISTER_SCRATCH, PAIR);
+        memory_put(REGISTER_SCRATCH, 1 + HEAD_WORDS, EMPTY_LIST);
         machine_move(machine, dest, REGISTER_SCRATCH);
     }
 }
@@ -50,7 +66,7 @@ void continuation_state(Machine *machine, unsigned dest, unsigned continuation, 
     if (machine->word[continuation] == CONTINUATION) {
         machine_set(machine, dest, EMPTY_LIST);
     } else {
-        machine_load(machine, dest, continuation, 1);
+        machine_load_fixed(machine, dest, continuation, 1);
     }
 }
 

@@ -390,3 +390,21 @@ Node *parse_guard(const Datum *form, Place place) {
     handler->nodes[0] = parse_clauses(clauses, 1, again, inner(place, handler->variables[0]));
     return global_call(form->at, "%guard", parts, 2);
 }
+
+/* (parameterize ((parameter value) ..) body ..): the prelude gets a list of pairs of both, and the body as a procedure. */
+Node *parse_parameterize(const Datum *form, Place place) {
+    want_items(form, 3, SIZE_MAX);
+    const Datum *const bindings = want_list(form->items[1]);
+    Node *const list = node_at(form->at, NODE_LIST, bindings->count + 1), *const body = lambda_node(form->at, symbol("parameterize"), 0);
+    Node *const parts[] = {list, body};
+    place = not_last(place);
+    for (size_t i = 0; i < bindings->count; i++) {
+        const Datum *const binding = want_list(bindings->items[i]);
+        if (binding->count != 2) fault(binding->at, "a parameter and its value are wanted here");
+        Node *const both[] = {parse(binding->items[0], place), parse(binding->items[1], place)};
+        list->nodes[i] = primitive_of(binding->at, "cons", both, 2);
+    }
+    list->nodes[bindings->count] = word_node(form->at, EMPTY_LIST);
+    body->nodes[0] = parse_body(form, 2, place);
+    return global_call(form->at, "%parameterize", parts, 2);
+}

@@ -1,6 +1,7 @@
 /*
  * Faults of a program: where one stands, and what is said of it. SPDX: MIT OR Apache-2.0
  */
+#define _POSIX_C_SOURCE 200809L
 #include "fault.h"
 #include <inttypes.h>
 #include <stdarg.h>
@@ -8,11 +9,44 @@
 #include <stdlib.h>
 
 jmp_buf fault_exit;
+
+#ifdef THREADS
+#include "memory.h"
+#include <sched.h>
+
+static __thread void (*ends)(void);
+static __thread bool tells; /* this thread tells a fault .. */
+static bool is_told;        /* .. or some thread does */
+
+/* One fault is told at a time, and where it ends the program no other is. A thread that waits for that rests. */
+static void begin_telling(void) {
+    while (!tells && __atomic_exchange_n(&is_told, true, __ATOMIC_ACQUIRE)) {
+        memory_rest();
+        sched_yield();
+        memory_wake();
+    }
+    tells = true;
+}
+
+static void end_telling(void) {
+    tells = false;
+    __atomic_store_n(&is_told, false, __ATOMIC_RELEASE);
+}
+#else
+static void (*ends)(void);
+
+static void begin_telling(void) {}
+
+static void end_telling(void) {}
+#endif
 static const char *source = "scheme";
 
 void fault_source(const char *name) { source = name; }
 
+void fault_ends_by(void (*end)(void)) { ends = end; }
+
 void fault_begin(Position at) {
+    begin_telling();
     fflush(stdout);
     if (at.line) {
         fprintf(stderr, "%s:%" PRIu32 ":%" PRIu32 ": ", source, at.line, at.column);
@@ -23,6 +57,8 @@ void fault_begin(Position at) {
 
 void fault_end(void) {
     fputc('\n', stderr);
+    if (ends) ends();
+    end_telling();
     longjmp(fault_exit, 1);
 }
 

@@ -16,10 +16,13 @@ typedef struct position {
 /* Names the source in which faults stand from now on. */
 void fault_source(const char *name);
 
-/* Where a fault goes to, once it is told. */
+/* Where a fault of the first thread goes to, once it is told. */
 extern jmp_buf fault_exit;
 
-/* Writes `SOURCE:LINE:COLUMN: ` to the standard error output. */
+/* A fault of the thread that calls does this instead, which doesn't come back. */
+void fault_ends_by(void (*end)(void));
+
+/* Writes `SOURCE:LINE:COLUMN: ` to the standard error output. Other threads tell no fault until this one ends. */
 void fault_begin(Position at);
 __attribute__((noreturn)) void fault_end(void);
 

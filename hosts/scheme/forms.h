@@ -27,8 +27,8 @@ typedef Node *Form(const Datum *form, Place place);
 
 /* What a symbol is where no local variable has its name. */
 typedef struct global {
-    bool has_entry;
-    unsigned entry;
+    bool has_entry, has_prelude_entry;
+    unsigned entry, prelude_entry; /* of the table: what a program has, and what the prelude has */
     Form *form;
     bool is_keyword; /* the form has no value of its own */
     Macro *macro;
@@ -49,6 +49,8 @@ Node *local_node(Position at, Variable *variable);
 Node *let_node(Position at, size_t count);
 Node *lambda_node(Position at, Symbol name, size_t count);
 Node *apply_node(Position at, Node *procedure, Node *list);
+
+/* Calls of globals of the prelude. */
 Node *call_of_global(const char *global, Node *argument);
 Node *global_call(Position at, const char *global, Node *const *arguments, size_t count);
 Node *primitive_of(Position at, const char *name, Node *const *operands, size_t count);
@@ -107,7 +109,7 @@ Node *parse_clauses(const Datum *form, size_t from, Node *otherwise, Place place
 Node *parse_outermost(const Datum *form);
 
 /* definitions.c */
-Form parse_define_values, parse_define_record, parse_let_values, parse_let_values_in_order, parse_guard;
+Form parse_define_values, parse_define_record, parse_let_values, parse_let_values_in_order, parse_guard, parse_parameterize;
 Symbol defined_name(const Datum *form);
 Node *defined_value(const Datum *form, Place place);
 

@@ -3,153 +3,178 @@
  */
 #include "machine.h"
 #include "primitives.h"
+#include "table.h"
 #include <stdarg.h>
 #include <stdlib.h>
 #include <string.h>
 
-static jmp_buf raised; /* where a fault goes to, of which a handler learns */
-static char fault_text[1024];
-
-/* The table has entries of its own, and behind them parts with further entries. */
-enum { TABLE_PARTS = 16, TABLE_OWN = OBJECT_MOST - TABLE_PARTS, TABLE_MOST = TABLE_OWN + TABLE_PARTS * OBJECT_MOST };
+Program program;
 
 /* Word 0 of a frame: where to go on, which registers stand behind it, and which one gets the result. Its last reference is the frame
  * before: a return loads it into the frame's own register, behind all others. */
 enum { FRAME_REGISTERS_SHIFT = 32, FRAME_RESULT_SHIFT = 48 };
 
+/* Arrays that have become others, and are kept for threads that read there: each begins with the one before. */
+static void **outgrown;
+
+/* An array has room for more items. */
+static void *grown(void *array, size_t count, size_t room, size_t size) {
+#ifdef THREADS
+    void **const more = more_memory(NULL, sizeof(void *) + room * size);
+    if (array) memcpy(more + 1, array, count * size);
+    more[0] = outgrown;
+    outgrown = more;
+    return more + 1;
+#else
+    (void)count;
+    return more_memory(array, room * size);
+#endif
+}
+
+static void free_array(void *array) {
+#ifdef THREADS
+    (void)array;
+#else
+    free(array);
+#endif
+}
+
+static void free_outgrown(void) {
+    while (outgrown) {
+        void **const before = outgrown[0];
+        free(outgrown);
+        outgrown = before;
+    }
+}
+
+/* Where others read an array, they find it as it is. */
+#ifdef THREADS
+#define PUBLISH(array, value) __atomic_store_n(&(array), (value), __ATOMIC_RELEASE)
+#else
+#define PUBLISH(array, value) ((array) = (value))
+#endif
+
 /* Makes room for one more in an array. */
-#define GROW(array, count, room) \
+#define GROW(array, count, room, least) \
     do { \
         if ((count) == (room)) { \
-            (room) = (room) ? 2 * (room) : 256; \
-            (array) = more_memory((array), (room) * sizeof *(array)); \
+            (room) = (room) ? 2 * (room) : (least); \
+            PUBLISH(array, grown((array), (count), (room), sizeof *(array))); \
         } \
     } while (0)
 
 Position machine_position(const Machine *machine) {
-    const Position at = machine->positions[machine->at];
-    return at.line ? at : machine->positions[machine->called_at];
+    const Position *const positions = PUBLISHED(program.positions);
+    const Position at = positions[machine->at];
+    return at.line ? at : positions[machine->called_at];
+}
+
+/* The word of the dynamic state. */
+static Word state_word(const Machine *machine) {
+#ifdef THREADS
+    return machine->own[OWN_STATE];
+#else
+    (void)machine;
+    return program.table[OWN_STATE];
+#endif
 }
 
 void machine_fault(const Machine *machine, const char *format, ...) {
+    Trouble *const trouble = machine->trouble;
     va_list arguments;
     va_start(arguments, format);
-    vsnprintf(fault_text, sizeof fault_text, format, arguments);
+    vsnprintf(trouble->text, sizeof trouble->text, format, arguments);
     va_end(arguments);
-    if (machine->table[machine->state] != EMPTY_LIST) longjmp(raised, 1);
-    fault(machine_position(machine), "%s", fault_text);
+    if (state_word(machine) != EMPTY_LIST) longjmp(trouble->raised, 1);
+    fault(machine_position(machine), "%s", trouble->text);
 }
 
 void machine_full(const Machine *machine) { fault(machine_position(machine), "the heap is full"); }
 
-size_t machine_add_instruction(Machine *machine, Instruction instruction, Position at) {
-    if (machine->instruction_count == machine->instruction_room) {
-        const size_t room = machine->instruction_room ? 2 * machine->instruction_room : 4096;
-        machine->instructions = more_memory(machine->instructions, room * sizeof *machine->instructions);
-        machine->positions = more_memory(machine->positions, room * sizeof *machine->positions);
-        machine->instruction_room = room;
-    }
-    machine->instructions[machine->instruction_count] = instruction;
-    machine->positions[machine->instruction_count] = at;
-    return machine->instruction_count++;
+size_t machine_add_instruction(Instruction instruction, Position at) {
+    size_t room = program.instruction_room;
+    GROW(program.positions, program.instruction_count, room, 4096); /* before the instructions: none is without a position */
+    GROW(program.instructions, program.instruction_count, program.instruction_room, 4096);
+    program.instructions[program.instruction_count] = instruction;
+    program.positions[program.instruction_count] = at;
+    return program.instruction_count++;
 }
 
-unsigned machine_add_code(Machine *machine, Code code) {
-    GROW(machine->codes, machine->code_count, machine->code_room);
-    machine->codes[machine->code_count] = code;
-    return (unsigned)machine->code_count++;
+unsigned machine_add_code(Code code) {
+    GROW(program.codes, program.code_count, program.code_room, 256);
+    program.codes[program.code_count] = code;
+    return (unsigned)program.code_count++;
 }
 
-size_t machine_add_word(Machine *machine, Word word) {
-    GROW(machine->words, machine->word_count, machine->word_room);
-    machine->words[machine->word_count] = word;
-    return machine->word_count++;
+size_t machine_add_word(Word word) {
+    GROW(program.words, program.word_count, program.word_room, 256);
+    program.words[program.word_count] = word;
+    return program.word_count++;
 }
 
-unsigned machine_add_entry(Machine *machine, Symbol name) {
-    if (machine->table_count == TABLE_MOST) fault((Position){0}, "more than %d globals and constants", (int)TABLE_MOST);
-    if (machine->table_count == machine->table_room) {
-        const size_t room = machine->table_room ? 2 * machine->table_room : 512;
-        machine->table = more_memory(machine->table, room * sizeof *machine->table);
-        machine->table_names = more_memory(machine->table_names, room * sizeof *machine->table_names);
-        machine->table_room = room;
-    }
-    if (machine->table_count >= TABLE_OWN && (machine->table_count - TABLE_OWN) % OBJECT_MOST == 0) {
-        if (!memory_new(REGISTER_SCRATCH, OBJECT_MOST, 0)) fault((Position){0}, "the heap is full");
-        memory_store(REGISTER_TABLE, TABLE_OWN + (unsigned)(machine->table_count - TABLE_OWN) / OBJECT_MOST, REGISTER_SCRATCH);
-    }
-    machine->table[machine->table_count] = UNDEFINED;
-    machine->table_names[machine->table_count] = name;
-    return (unsigned)machine->table_count++;
+unsigned machine_add_record(RecordType type) {
+    GROW(program.records, program.record_count, program.record_room, 256);
+    program.records[program.record_count] = type;
+    return (unsigned)program.record_count++;
 }
 
-unsigned machine_add_record(Machine *machine, RecordType type) {
-    GROW(machine->records, machine->record_count, machine->record_room);
-    machine->records[machine->record_count] = type;
-    return (unsigned)machine->record_count++;
-}
-
+/* Operands stay as they are once there are several threads. */
 unsigned machine_constant(Machine *machine, Word word) {
     for (unsigned i = REGISTERS; i < machine->operands; i++) {
         if (machine->word[i] == word) return i;
     }
-    if (machine->operands == OPERANDS) return 0;
+    if (machine->operands == OPERANDS || program.is_shared) return 0;
     machine->word[machine->operands] = word;
     return machine->operands++;
 }
 
-/* The object that has a reference of the table, held by a register; and which of its references it is. */
-static unsigned find_entry(Machine *machine, unsigned entry, unsigned *index) {
-    if (entry < TABLE_OWN) {
-        *index = entry;
-        return REGISTER_TABLE;
-    }
-    const unsigned part = TABLE_OWN + (entry - TABLE_OWN) / OBJECT_MOST;
-    *index = (entry - TABLE_OWN) % OBJECT_MOST;
-    memory_load(REGISTER_SCRATCH, REGISTER_TABLE, part);
-    machine->holding |= 1u << REGISTER_SCRATCH;
-    return REGISTER_SCRATCH;
-}
-
 static void table_get(Machine *machine, unsigned dest, unsigned entry) {
-    const Word word = machine->table[entry];
-    if (word == UNDEFINED) machine_fault(machine, "%s isn't defined", symbol_name(machine->table_names[entry]));
-    machine->word[dest] = word;
-    if (is_reference(word)) {
-        unsigned index;
-        const unsigned part = find_entry(machine, entry, &index);
-        memory_load(dest, part, index);
-        machine->holding |= 1u << dest;
-    }
+    if (!machine_get_entry(machine, dest, entry)) machine_fault(machine, "%s isn't defined", symbol_name(program.table_names[entry]));
 }
 
-void machine_set_entry(Machine *machine, unsigned entry, unsigned source) {
-    const bool has_reference = is_reference(machine->word[source]);
-    if (has_reference || is_reference(machine->table[entry])) {
-        unsigned index;
-        const unsigned part = find_entry(machine, entry, &index);
-        memory_store(part, index, has_reference ? source : REGISTER_NIL);
-    }
-    machine->table[entry] = machine->word[source];
-}
-
-void machine_open(Machine *machine) {
-    *machine = (Machine){.operands = REGISTERS, .output = stdout, .exit_status = -1};
+void machine_open(Machine *machine, unsigned threads) {
+    static Trouble trouble;
+    *machine = (Machine){.operands = REGISTERS, .output = stdout, .exit_status = -1, .trouble = &trouble};
+#ifdef THREADS
+    machine_open_directory(threads + 1);
+#else
+    (void)threads;
     if (!memory_new(REGISTER_TABLE, OBJECT_MOST, 0)) fault((Position){0}, "the heap is full");
+#endif
     const Instruction halt = {.op = OP_HALT};
-    machine_add_instruction(machine, halt, (Position){0});
+    machine_add_instruction(halt, (Position){0});
 }
 
 void machine_close(Machine *machine) {
-    free(machine->instructions);
-    free(machine->positions);
-    free(machine->codes);
-    free(machine->records);
-    free(machine->words);
-    free(machine->table);
-    free(machine->table_names);
+    free_array(program.instructions);
+    free_array(program.positions);
+    free_array(program.codes);
+    free_array(program.records);
+    free_array(program.words);
+    free_outgrown();
+    free(program.table);
+    free(program.table_names);
     free(machine->text);
 }
+
+#ifdef THREADS
+
+/* The register that is nil holds the field's object, and then a box, and is nil again. */
+void machine_store_boxed(const Machine *machine, unsigned base, unsigned field, Word word) {
+    const Word boxed = word == integer(0) ? BOXED_ZERO : word;
+    Word head;
+    memory_load(REGISTER_NIL, base, field);
+    if (memory_first(REGISTER_NIL, &head) && head && !is_reference(head)) {
+        memory_put(REGISTER_NIL, 0, boxed);
+    } else {
+        machine_new(machine, REGISTER_NIL, 0, 1);
+        memory_put(REGISTER_NIL, 0, boxed);
+        memory_store(base, field, REGISTER_NIL);
+    }
+    memory_nil(REGISTER_NIL);
+}
+
+#endif
 
 /* A call begins: what is needed after it goes into a frame. */
 static void push_frame(Machine *machine, uint64_t resume, unsigned needed, unsigned result) {
@@ -194,7 +219,7 @@ static uint32_t pop_frame(Machine *machine, unsigned source) {
 static void collect_rest(Machine *machine, unsigned parameters, unsigned arguments) {
     machine_set(machine, REGISTER_SCRATCH, EMPTY_LIST);
     for (unsigned i = arguments; i > parameters; i--) {
-        machine_new(machine, REGISTER_NIL, 2, 2); /* is nil again below */
+        machine_new(machine, REGISTER_NIL, 2, 2 + HEAD_WORDS); /* is nil again below */
         machine_begin(machine, REGISTER_NIL, 0, REGISTER_FIRST + i - 1);
         machine_begin(machine, REGISTER_NIL, 1, REGISTER_SCRATCH);
         memory_move(REGISTER_SCRATCH, REGISTER_NIL);
@@ -232,13 +257,20 @@ static size_t call(Machine *machine, unsigned arguments);
 
 /* A continuation gets a value. Where it leaves dynamic states or enters some, the prelude does what is to be done on the way. */
 static size_t go_on(Machine *machine) {
-    if (machine->word[REGISTER_PROCEDURE] == CONTINUATION && machine->table[machine->state] == EMPTY_LIST) {
-        memory_move(REGISTER_FRAME, REGISTER_PROCEDURE);
-        return pop_frame(machine, REGISTER_FIRST);
+    if (state_word(machine) == EMPTY_LIST) {
+        const bool has_no_state = HEAD_WORDS && memory_get(REGISTER_PROCEDURE, 1 + HEAD_WORDS) == EMPTY_LIST;
+        if (machine->word[REGISTER_PROCEDURE] == CONTINUATION) {
+            memory_move(REGISTER_FRAME, REGISTER_PROCEDURE);
+            return pop_frame(machine, REGISTER_FIRST);
+        }
+        if (has_no_state) {
+            memory_load(REGISTER_FRAME, REGISTER_PROCEDURE, 0);
+            return pop_frame(machine, REGISTER_FIRST);
+        }
     }
     machine_move(machine, REGISTER_FIRST + 1, REGISTER_FIRST);
     machine_move(machine, REGISTER_FIRST, REGISTER_PROCEDURE);
-    table_get(machine, REGISTER_PROCEDURE, machine->go_on);
+    table_get(machine, REGISTER_PROCEDURE, program.go_on);
     return call(machine, 2);
 }
 
@@ -246,7 +278,7 @@ static size_t go_on(Machine *machine) {
 static size_t call(Machine *machine, unsigned arguments) {
     const Word procedure = machine->word[REGISTER_PROCEDURE];
     if (kind_of(procedure) == KIND_PROCEDURE) {
-        const Code *const code = &machine->codes[payload(procedure)];
+        const Code *const code = &PUBLISHED(program.codes)[payload(procedure)];
         if (code->has_rest && arguments >= code->parameters) {
             collect_rest(machine, code->parameters, arguments);
             arguments = code->parameters + 1;
@@ -286,7 +318,7 @@ static size_t apply(Machine *machine) {
         if (kind_of(procedure) == KIND_CONTINUATION) values_of_list(machine, REGISTER_FIRST, REGISTER_FIRST);
         return call(machine, 1);
     }
-    const Code *const code = &machine->codes[payload(procedure)];
+    const Code *const code = &PUBLISHED(program.codes)[payload(procedure)];
     spread_list(machine, code);
     forget_others(machine, code->parameters + code->has_rest);
     return code->entry;
@@ -297,9 +329,8 @@ static void make_pair(Machine *machine, unsigned dest, unsigned first, unsigned 
     const unsigned pair = is_direct ? dest : REGISTER_SCRATCH;
     const uint32_t sources[] = {machine_source(machine, first), machine_source(machine, second)};
     const Word data[] = {machine->word[first], machine->word[second]};
-    machine_new_with(machine, pair, sources, 2, data, 2);
-    if (!is_direct) memory_move(dest, pair);
-    machine_hold(machine, dest, PAIR);
+    machine_make(machine, pair, PAIR, sources, data, 2);
+    if (!is_direct) machine_move(machine, dest, pair);
 }
 
 static bool are_same(const Machine *machine, unsigned left, unsigned right) {
@@ -317,18 +348,18 @@ static bool divides(Word left, Word right) {
     return is_integer(left | right) && right != integer(0) && (right != integer(-1) || left != integer(INTEGER_LEAST));
 }
 
-/* What returns to the frame: the frame alone, or where there is a dynamic state an object that has both. */
+/* What returns to the frame: the frame alone, or where there is a dynamic state an object that has both. Where threads share the heap it is
+ * always the object, since that tells which value it is. */
 static void make_continuation(Machine *machine, unsigned dest) {
-    if (machine->table[machine->state] == EMPTY_LIST) {
+    if (!HEAD_WORDS && state_word(machine) == EMPTY_LIST) {
         memory_move(dest, REGISTER_FRAME);
         machine_hold(machine, dest, CONTINUATION);
         return;
     }
-    machine_new(machine, dest, 2, 2);
+    machine_make_empty(machine, dest, CONTINUATION_WITH_STATE, 2);
     memory_store(dest, 0, REGISTER_FRAME);
-    table_get(machine, REGISTER_SCRATCH, machine->state);
+    table_get(machine, REGISTER_SCRATCH, OWN_STATE);
     machine_begin(machine, dest, 1, REGISTER_SCRATCH);
-    machine_hold(machine, dest, CONTINUATION_WITH_STATE);
 }
 
 static size_t resume(Machine *machine, unsigned continuation, unsigned source) {
@@ -342,9 +373,9 @@ static size_t resume(Machine *machine, unsigned continuation, unsigned source) {
 
 static void make_slots(Machine *machine, unsigned dest, unsigned count) {
     Word undefined[OBJECT_MOST];
-    machine_new(machine, dest, count, count);
+    machine_new(machine, dest, count, count + HEAD_WORDS);
     for (unsigned i = 0; i < count; i++) undefined[i] = UNDEFINED;
-    memory_put_many(dest, 0, undefined, count);
+    memory_put_many(dest, HEAD_WORDS, undefined, count);
     machine_hold(machine, dest, SLOTS);
 }
 
@@ -362,16 +393,44 @@ static unsigned make_closure(Machine *machine, Instruction closure, const Instru
     }
     const bool is_whole = known == closure.b;
     if (is_whole) {
-        machine_new_with(machine, closure.a, sources, known, data, known);
+        machine_make(machine, closure.a, REFERENCE(KIND_PROCEDURE, closure.n), sources, data, known);
     } else {
-        machine_new(machine, closure.a, closure.b, closure.b);
+        machine_make_empty(machine, closure.a, REFERENCE(KIND_PROCEDURE, closure.n), closure.b);
     }
-    machine_hold(machine, closure.a, REFERENCE(KIND_PROCEDURE, closure.n));
     return is_whole ? known : 0;
 }
 
 /* The instruction that runs is named before what may fault. */
-#define AT() (machine->at = (size_t)(next - machine->instructions) - 1)
+#define AT() (machine->at = (size_t)(next - base) - 1)
+
+/* So too before a change of a field or a global, which makes a box at times where there are several threads. */
+#ifdef THREADS
+#define AT_CHANGE() AT()
+#else
+#define AT_CHANGE() (void)0
+#endif
+
+/* Goes on at an instruction. */
+#define GO(to) \
+    do { \
+        const size_t at = (to); \
+        base = PUBLISHED(program.instructions); \
+        next = base + at; \
+    } while (0)
+
+/* A loop may make no call of the heap, and others may wait for a pause: so it asks now and then. */
+#ifdef THREADS
+enum { PATIENCE = 1000 };
+#define POLL() \
+    do { \
+        if (!--patience) { \
+            patience = PATIENCE; \
+            memory_poll(); \
+        } \
+    } while (0)
+#else
+#define POLL() (void)0
+#endif
 
 /* A test's instruction jumps where it fails. */
 #define TEST(condition) \
@@ -421,19 +480,26 @@ static unsigned make_closure(Machine *machine, Instruction closure, const Instru
 
 __attribute__((noinline)) static void run(Machine *machine, size_t from) {
     Word *const word = machine->word;
-    const Instruction *next = machine->instructions + from;
+    const Instruction *base, *next; /* the first instruction, and the next one */
+#ifdef THREADS
+    unsigned patience = PATIENCE;
+#endif
+    GO(from);
     for (;;) {
         const Instruction i = *next++;
         switch ((Opcode)i.op) {
         case OP_HALT: return;
-        case OP_WORD: word[i.a] = machine->words[i.n]; break;
+        case OP_WORD: word[i.a] = PUBLISHED(program.words)[i.n]; break;
         case OP_TABLE_GET:
             AT();
             table_get(machine, i.a, (unsigned)i.n);
             break;
-        case OP_TABLE_SET: machine_set_entry(machine, (unsigned)i.n, i.a); break;
+        case OP_TABLE_SET:
+            AT_CHANGE();
+            machine_set_entry(machine, (unsigned)i.n, i.a);
+            break;
         case OP_MOVE: machine_move(machine, i.a, i.b); break;
-        case OP_CAPTURED: machine_load(machine, i.a, REGISTER_PROCEDURE, (unsigned)i.n); break;
+        case OP_CAPTURED: machine_load_fixed(machine, i.a, REGISTER_PROCEDURE, (unsigned)i.n); break;
         case OP_CLOSURE:
             AT();
             next += make_closure(machine, i, next);
@@ -450,8 +516,14 @@ __attribute__((noinline)) static void run(Machine *machine, size_t from) {
                 machine_fault(machine, "a variable is used before its definition");
             }
             break;
-        case OP_SLOT_SET: machine_store(machine, i.a, (unsigned)i.n, i.b); break;
-        case OP_JUMP: next += i.n; break;
+        case OP_SLOT_SET:
+            AT_CHANGE();
+            machine_store(machine, i.a, (unsigned)i.n, i.b);
+            break;
+        case OP_JUMP:
+            if (i.n < 0) POLL();
+            next += i.n;
+            break;
         case OP_UNLESS: TEST(word[i.a] != FALSE); break;
         case OP_LESS: TEST_NUMBERS(OP_LESS, <); break;
         case OP_NOT_GREATER: TEST_NUMBERS(OP_NOT_GREATER, <=); break;
@@ -482,10 +554,12 @@ __attribute__((noinline)) static void run(Machine *machine, size_t from) {
             break;
         case OP_SET_CAR:
             WANT(i.a, PAIR, "set-car!", "a pair");
+            AT_CHANGE();
             machine_store(machine, i.a, 0, i.b);
             break;
         case OP_SET_CDR:
             WANT(i.a, PAIR, "set-cdr!", "a pair");
+            AT_CHANGE();
             machine_store(machine, i.a, 1, i.b);
             break;
         case OP_VECTOR_REF:
@@ -503,59 +577,86 @@ __attribute__((noinline)) static void run(Machine *machine, size_t from) {
             break;
         case OP_FRAME:
             AT();
-            push_frame(machine, (uint64_t)(next - machine->instructions) + (uint64_t)i.n, i.b | (unsigned)i.c << 8, i.a);
+            push_frame(machine, (uint64_t)(next - base) + (uint64_t)i.n, i.b | (unsigned)i.c << 8, i.a);
             break;
         case OP_CALL:
             AT();
-            if (machine->positions[machine->at].line) machine->called_at = machine->at;
-            next = machine->instructions + call(machine, i.b);
+            if (PUBLISHED(program.positions)[machine->at].line) machine->called_at = machine->at;
+            GO(call(machine, i.b));
+            POLL();
             break;
         case OP_APPLY:
             AT();
-            if (machine->positions[machine->at].line) machine->called_at = machine->at;
-            next = machine->instructions + apply(machine);
+            if (PUBLISHED(program.positions)[machine->at].line) machine->called_at = machine->at;
+            GO(apply(machine));
+            POLL();
             break;
-        case OP_RETURN: next = machine->instructions + pop_frame(machine, i.a); break;
+        case OP_RETURN: GO(pop_frame(machine, i.a)); break;
         case OP_CONTINUATION:
             AT();
             make_continuation(machine, i.a);
             break;
-        case OP_RESUME: next = machine->instructions + resume(machine, i.a, i.b); break;
+        case OP_RESUME: GO(resume(machine, i.a, i.b)); break;
         }
     }
 }
 
-/* Code begins, with nothing that it would return to but the end. Answers where it does. */
-static size_t begin(Machine *machine, unsigned start) {
-    machine->at = machine->called_at = machine->codes[start].entry;
+/* Code begins at a position, with nothing that it would return to but the end. */
+static void begin(Machine *machine, size_t at) {
+    machine->at = machine->called_at = at;
     machine->holding |= (1u << REGISTER_END) - (1u << REGISTER_PROCEDURE);
     forget_others(machine, 0);
     machine_new(machine, REGISTER_FRAME, 1, 1); /* it returns to the first instruction, which halts, with a result there */
     memory_put(REGISTER_FRAME, 0, (uint64_t)REGISTER_FIRST << FRAME_RESULT_SHIFT);
-    machine->word[REGISTER_PROCEDURE] = PLAIN(KIND_PROCEDURE, start);
-    return machine->codes[start].entry;
 }
 
 /* A handler learns of a fault: the prelude's procedure gets what would be told, and where. Answers where to go on. */
 static size_t raise_fault(Machine *machine) {
     const Word at = position_word(machine_position(machine));
-    make_string_of(machine, REGISTER_FIRST, fault_text, strlen(fault_text));
+    make_string_of(machine, REGISTER_FIRST, machine->trouble->text, strlen(machine->trouble->text));
     machine_set(machine, REGISTER_FIRST + 1, at);
-    table_get(machine, REGISTER_PROCEDURE, machine->raise);
+    table_get(machine, REGISTER_PROCEDURE, program.raise);
     return call(machine, 2);
 }
 
 void machine_run(Machine *machine, unsigned start) {
-    if (setjmp(raised)) {
+    if (setjmp(machine->trouble->raised)) {
         run(machine, raise_fault(machine));
     } else {
-        run(machine, begin(machine, start));
+        begin(machine, program.codes[start].entry);
+        machine->word[REGISTER_PROCEDURE] = PLAIN(KIND_PROCEDURE, start);
+        run(machine, program.codes[start].entry);
     }
 }
+
+#ifdef THREADS
+
+/* The prelude's procedure for it is called with the thread. Answers where to go on. */
+static size_t begin_thread(Machine *machine) {
+    const size_t called_at = machine->called_at; /* what started it */
+    begin(machine, 0);
+    machine->called_at = called_at;
+    table_get(machine, REGISTER_FIRST, OWN_THREAD);
+    table_get(machine, REGISTER_PROCEDURE, program.run_thread);
+    return call(machine, 1);
+}
+
+void machine_run_thread(Machine *machine) {
+    if (setjmp(machine->trouble->raised)) {
+        run(machine, raise_fault(machine));
+    } else {
+        run(machine, begin_thread(machine));
+    }
+}
+
+#endif
 
 void machine_reset(Machine *machine) {
     machine->output = stdout;
     memory_nil(REGISTER_NIL);
     machine_set(machine, REGISTER_SCRATCH, EMPTY_LIST);
-    machine_set_entry(machine, machine->state, REGISTER_SCRATCH);
+    machine_set_entry(machine, OWN_STATE, REGISTER_SCRATCH);
+    machine_set_entry(machine, OWN_BINDINGS, REGISTER_SCRATCH);
+    machine_set(machine, REGISTER_SCRATCH, STANDARD_OUTPUT);
+    machine_set_entry(machine, OWN_OUTPUT, REGISTER_SCRATCH);
 }

@@ -8,6 +8,8 @@
  * A call that isn't a tail call makes a frame: an object that has the frame before it, where to go on, and the registers that are needed
  * then. Frames never change, so a continuation is a reference to a frame. Code and the words of globals and constants are C's; what globals
  * and constants refer to is held by the table, an object that register 0 holds.
+ *
+ * Each thread has a machine, and all have one program and one table. Where there is one thread, nothing is made for others.
  */
 #ifndef MACHINE_H
 #define MACHINE_H
@@ -28,7 +30,7 @@ enum {
     REGISTERS = MEMORY_REGISTERS,
     OPERANDS = 256,
     ARGUMENTS_MOST = 8,
-    RECORD_FIELDS_MOST = OBJECT_MOST + 1
+    RECORD_FIELDS_MOST = OBJECT_MOST + 1 /* more than a record has */
 };
 
 typedef enum opcode {
@@ -95,12 +97,11 @@ typedef struct record_type {
     unsigned fields;
 } RecordType;
 
-typedef struct machine {
-    Word word[OPERANDS];
-    unsigned holding;  /* the registers that may hold an object */
-    unsigned operands; /* how many operands there are */
-    size_t at;         /* the instruction that runs, where it may fault */
-    size_t called_at;  /* the last call that stands in a source */
+/*
+ * What all threads share: code, and the words of globals. Code is compiled by the first thread alone. Where there are others, an array that
+ * grows becomes another one, and the old one stays as it is, so that who reads there may go on; each reads by PUBLISHED where the array is.
+ */
+typedef struct program {
     Instruction *instructions;
     Position *positions; /* of instructions */
     size_t instruction_count, instruction_room;
@@ -113,27 +114,59 @@ typedef struct machine {
     Word *table; /* words of the table */
     Symbol *table_names;
     size_t table_count, table_room;
-    unsigned state, raise, go_on; /* entries of the table: the dynamic state, and the prelude's procedures for faults and continuations */
-    char *text;                   /* bytes of strings that are worked on */
+    unsigned raise, go_on, run_thread; /* entries of the table: the prelude's procedures for faults, continuations and threads */
+    bool is_shared;                    /* there is, or was, a second thread */
+} Program;
+
+extern Program program;
+
+#ifdef THREADS
+#define PUBLISHED(array) __atomic_load_n(&(array), __ATOMIC_ACQUIRE)
+#else
+#define PUBLISHED(array) (array)
+#endif
+
+/* The first entries of the table are each thread's own: the dynamic state, parameters, the port of output, and the thread itself. */
+enum { OWN_STATE, OWN_BINDINGS, OWN_OUTPUT, OWN_THREAD, OWN_ENTRIES };
+
+/* A fault that is raised: where it goes to, and what is told of it. */
+typedef struct trouble {
+    jmp_buf raised;
+    char text[1024];
+} Trouble;
+
+struct waiter;
+
+/* What a thread of the program has. */
+typedef struct machine {
+    Word word[OPERANDS];
+    unsigned holding;  /* the registers that may hold an object */
+    unsigned operands; /* how many operands there are */
+    size_t at;         /* the instruction that runs, where it may fault */
+    size_t called_at;  /* the last call that stands in a source */
+    char *text;        /* bytes of strings that are worked on */
     size_t text_room;
     FILE *output;
     int exit_status; /* -1 while the program goes on */
+    Trouble *trouble;
+#ifdef THREADS
+    Word own[OWN_ENTRIES]; /* words of its own entries of the table */
+    unsigned place;        /* where what these refer to stands in the directory */
+    struct waiter *waiter; /* threads.c */
+#endif
 } Machine;
 
-void machine_open(Machine *machine);
+/* The machine of the first thread, beside which there may be so many. */
+void machine_open(Machine *machine, unsigned threads);
 void machine_close(Machine *machine);
 
 /* Adds what a compiled program consists of. */
-size_t machine_add_instruction(Machine *machine, Instruction instruction, Position at);
-unsigned machine_add_code(Machine *machine, Code code);
-size_t machine_add_word(Machine *machine, Word word);
-unsigned machine_add_entry(Machine *machine, Symbol name);
-unsigned machine_add_record(Machine *machine, RecordType type);
+size_t machine_add_instruction(Instruction instruction, Position at);
+unsigned machine_add_code(Code code);
+size_t machine_add_word(Word word);
+unsigned machine_add_record(RecordType type);
 
-/* An entry of the table becomes what a register holds. */
-void machine_set_entry(Machine *machine, unsigned entry, unsigned source);
-
-/* The operand of a constant, or 0 where all operands are taken. */
+/* The operand of a constant, or 0 where there is none and all are taken. */
 unsigned machine_constant(Machine *machine, Word word);
 
 /* Runs code without parameters to its end. */
@@ -148,6 +181,14 @@ Position machine_position(const Machine *machine);
 
 /* Tells that the heap is full, of which no handler learns: it could make nothing. */
 __attribute__((noreturn)) void machine_full(const Machine *machine);
+
+#ifdef THREADS
+/* Runs a thread that was started, from its beginning to its end. */
+void machine_run_thread(Machine *machine);
+
+/* Whether there was no second thread yet. A thread that starts one sets this before. */
+static inline bool is_alone(void) { return !__atomic_load_n(&program.is_shared, __ATOMIC_RELAXED); }
+#endif
 
 /* A register becomes a word without a reference. */
 static inline void machine_set(Machine *machine, unsigned dest, Word word) { machine->word[dest] = word; }
@@ -166,35 +207,9 @@ static inline void machine_move(Machine *machine, unsigned dest, unsigned source
     }
 }
 
-/* A register becomes a field of an object: its word, and its reference of the same number where that has one. */
-static inline void machine_load(Machine *machine, unsigned dest, unsigned base, unsigned field) {
-    const Word word = memory_get(base, field);
-    machine->word[dest] = word;
-    if (is_reference(word)) {
-        memory_load(dest, base, field);
-        machine->holding |= 1u << dest;
-    }
-}
-
 /* The register that a field's reference is stored from: one that is nil, where the value has none. */
 static inline uint32_t machine_source(const Machine *machine, unsigned operand) {
     return is_reference(machine->word[operand]) ? operand : REGISTER_NIL;
-}
-
-/* A field of a new object becomes a value. */
-static inline void machine_begin(const Machine *machine, unsigned base, unsigned field, unsigned source) {
-    memory_put(base, field, machine->word[source]);
-    if (is_reference(machine->word[source])) memory_store(base, field, source);
-}
-
-/* A field of an object becomes a value; what it referred to is let go. */
-static inline void machine_store(Machine *machine, unsigned base, unsigned field, unsigned source) {
-    if (is_reference(machine->word[source])) {
-        memory_store(base, field, source);
-    } else if (is_reference(memory_get(base, field))) {
-        memory_store(base, field, REGISTER_NIL);
-    }
-    memory_put(base, field, machine->word[source]);
 }
 
 static inline void machine_new(const Machine *machine, unsigned dest, unsigned references, unsigned words) {
@@ -205,5 +220,7 @@ static inline void machine_new_with(const Machine *machine, unsigned dest, const
                                     size_t words) {
     if (!memory_new_with(dest, sources, references, data, words)) machine_full(machine);
 }
+
+#include "fields.h"
 
 #endif

@@ -16,17 +16,31 @@
 #include <string.h>
 #include <unistd.h>
 
+#ifdef THREADS
+#include "threads.h"
+#include <lxr_threads.h>
+#endif
+
 static const char usage[] =
-    "usage: scheme [--heap BLOCKS] [--bodies BLOCKS] [--every BYTES] [--pauses] [FILE]\n"
+    "usage: scheme [--heap BLOCKS] [--bodies BLOCKS] [--every BYTES] [--pauses] [--threads N] [--helpers N] [FILE]\n"
     "\n"
     "Runs FILE, or what is typed where there is none. A block has 32 KB.\n"
     "\n"
     "--heap BLOCKS    size of the heap, 1 to 65536 (2048)\n"
     "--bodies BLOCKS  room for strings of more than 8184 bytes, 1 to 65536 (256)\n"
     "--every BYTES    new objects between two plain pauses of the proved collector (chosen by the size of the heap)\n"
-    "--pauses         tells at the end how many pauses there were, and how long they took, on the standard error output\n";
+    "--pauses         tells at the end how many pauses there were, and how long they took, on the standard error output\n"
+    "--threads N      runs on a heap that threads share, with up to N threads at once beside the first\n"
+    "--helpers N      runs on such a heap, with N threads that help the collector\n"
+    "\n"
+    "A heap that threads share may be smaller, and has long strings among its other objects; how large the numbers may be is told.\n";
 
+#ifdef THREADS
+enum { BLOCKS_MOST = LXR_MOST_SHARED_BLOCKS, THREADS_MOST = LXR_MOST_MUTATORS - 1, HELPERS_MOST = LXR_MOST_HELPERS };
+#else
 enum { BLOCKS_MOST = 65536 };
+#endif
+enum { BODY_BLOCKS_IN_ALL = 65536, BLOCKS_CHOSEN = BLOCKS_MOST < 2048 ? BLOCKS_MOST : 2048 };
 
 typedef struct options {
     MemoryOptions memory;
@@ -69,45 +83,83 @@ static void define_itself(Machine *machine, const char *name, unsigned parameter
 }
 
 /* What the machine and the prelude know of each other: the dynamic state, errors, and two procedures. */
-static void define_state(Machine *machine) {
-    syntax_define("%state", EMPTY_LIST);
-    machine->state = syntax_entry("%state");
-    machine->raise = syntax_entry("%raise-fault");
-    machine->go_on = syntax_entry("%go-on");
-    syntax_define("%error", PLAIN(KIND_RECORD, machine_add_record(machine, (RecordType){.name = symbol_of("error", 5), .fields = 4})));
+static void define_state(void) {
+    syntax_define("%state", EMPTY_LIST); /* the first are each thread's own */
+    syntax_define("%bindings", EMPTY_LIST);
     syntax_define("%output", STANDARD_OUTPUT);
+    syntax_define("%thread", FALSE);
+    program.raise = syntax_entry("%raise-fault");
+    program.go_on = syntax_entry("%go-on");
+    syntax_define("%error", PLAIN(KIND_RECORD, machine_add_record((RecordType){.name = symbol_of("error", 5), .fields = 4})));
     syntax_define("%errors", STANDARD_ERROR);
     syntax_define("%input", STANDARD_INPUT);
     syntax_define("%end", END_OF_FILE);
-    syntax_define("%dot", PLAIN(KIND_CONSTANT, 6));
+    syntax_define("%dot", DOT);
 }
 
 /* The procedure that returns a value where a continuation says. */
-static void define_resume(Machine *machine) {
+static void define_resume(void) {
     const Instruction resume = {.op = OP_RESUME, .a = REGISTER_FIRST, .b = REGISTER_FIRST + 1};
-    const Code code = {.entry = machine_add_instruction(machine, resume, (Position){0}), .parameters = 2, .name = symbol_of("%resume", 7)};
-    syntax_define("%resume", PLAIN(KIND_PROCEDURE, machine_add_code(machine, code)));
+    const Code code = {.entry = machine_add_instruction(resume, (Position){0}), .parameters = 2, .name = symbol_of("%resume", 7)};
+    syntax_define("%resume", PLAIN(KIND_PROCEDURE, machine_add_code(code)));
 }
 
 /* The procedure that calls another with what returns to its own caller. */
-static void define_continuations(Machine *machine) {
+static void define_continuations(void) {
     const Position nowhere = {0};
     const Symbol name = symbol_of("call/cc", 7);
     const Instruction call_argument = {.op = OP_MOVE, .a = REGISTER_PROCEDURE, .b = REGISTER_FIRST};
-    const size_t entry = machine_add_instruction(machine, call_argument, nowhere);
-    machine_add_instruction(machine, (Instruction){.op = OP_CONTINUATION, .a = REGISTER_FIRST}, nowhere);
-    machine_add_instruction(machine, (Instruction){.op = OP_CALL, .b = 1}, nowhere);
-    const Word procedure = PLAIN(KIND_PROCEDURE, machine_add_code(machine, (Code){.entry = entry, .parameters = 1, .name = name}));
+    const size_t entry = machine_add_instruction(call_argument, nowhere);
+    machine_add_instruction((Instruction){.op = OP_CONTINUATION, .a = REGISTER_FIRST}, nowhere);
+    machine_add_instruction((Instruction){.op = OP_CALL, .b = 1}, nowhere);
+    const Word procedure = PLAIN(KIND_PROCEDURE, machine_add_code((Code){.entry = entry, .parameters = 1, .name = name}));
     syntax_define("call/cc", procedure);
     syntax_define("call-with-current-continuation", procedure);
 }
 
+#ifdef THREADS
+/* A type of records, and its fields: what stands in a program's place for them are their numbers. */
+static void define_record(const char *type_name, const char *name, const char *const *fields) {
+    unsigned count = 0;
+    while (fields[count]) count++;
+    const unsigned type = machine_add_record((RecordType){.name = symbol_of(name, strlen(name)), .fields = count});
+    syntax_define(type_name, PLAIN(KIND_RECORD, type));
+    for (unsigned i = 0; i < count; i++) syntax_define(fields[i], integer((int64_t)type * RECORD_FIELDS_MOST + i));
+}
+
+static void define_threads(void) {
+    static const char *const thread[] = {"%thread.number",   "%thread.name",   "%thread.specific",  "%thread.thunk",
+                                         "%thread.bindings", "%thread.result", "%thread.failed-at", NULL};
+    static const char *const mutex[] = {"%mutex.number", "%mutex.name", "%mutex.specific", "%mutex.owner", NULL};
+    static const char *const condition[] = {"%condition.number", "%condition.name", "%condition.specific", NULL};
+    static const char *const time[] = {"%time.seconds", NULL};
+    define_record("%thread-type", "thread", thread);
+    define_record("%mutex-type", "mutex", mutex);
+    define_record("%condition-type", "condition-variable", condition);
+    define_record("%time-type", "time", time);
+    program.run_thread = syntax_entry("%run-thread");
+}
+
+/* The first thread is a thread as others are, which has begun. */
+static void define_first_thread(Machine *machine) {
+    static const char text[] = "(define %thread (%record-new %thread.number)) (%record-set! %thread %thread.number 1)"
+                               "(%record-set! %thread %thread.name 'primordial)";
+    run_text(machine, text, sizeof text - 1);
+}
+#endif
+
 static void run_prelude(Machine *machine) {
-    define_continuations(machine);
-    define_resume(machine);
+    define_continuations();
+    define_resume();
+#ifdef THREADS
+    define_threads();
+#endif
     for (unsigned i = 0; i < primitive_count; i++) define_itself(machine, primitives[i].name, primitives[i].most);
     for (unsigned path = 0; syntax_path(path); path++) define_itself(machine, syntax_path(path), 1);
     for (size_t i = 0; prelude[i]; i++) run_text(machine, prelude[i], strlen(prelude[i]));
+#ifdef THREADS
+    define_first_thread(machine);
+#endif
     syntax_end_prelude();
 }
 
@@ -158,7 +210,6 @@ static void run_prompt(Machine *machine) {
     fault_source("prompt");
     if (setjmp(fault_exit)) {
         machine_reset(machine);
-        syntax_define("%output", STANDARD_OUTPUT);
     }
     forget_typed(&prompt);
     for (;;) {
@@ -166,9 +217,12 @@ static void run_prompt(Machine *machine) {
             if (machine->exit_status >= 0) break;
             continue;
         }
+        memory_rest();
         if (is_terminal) fputs(prompt.typed.length ? "... " : "> ", stdout);
         fflush(stdout);
-        if (!fgets(line, sizeof line, stdin)) break;
+        const char *const typed = fgets(line, sizeof line, stdin);
+        memory_wake();
+        if (!typed) break;
         add_text(&prompt.typed, line, strlen(line));
         if (strchr(line, '\n')) prompt.lines++;
     }
@@ -206,21 +260,40 @@ wrong:
     exit(1);
 }
 
+static void tell_usage(bool is_wanted) {
+    fputs(usage, is_wanted ? stdout : stderr);
+    exit(is_wanted ? 0 : 1);
+}
+
+static void want_option(Options *options, const char *word, const char *value) {
+    if (strcmp(word, "--heap") == 0) {
+        options->memory.blocks = want_number(word, value, BLOCKS_MOST);
+    } else if (strcmp(word, "--bodies") == 0) {
+        options->memory.body_blocks = want_number(word, value, BODY_BLOCKS_IN_ALL);
+    } else if (strcmp(word, "--every") == 0) {
+        options->memory.every = want_number(word, value, UINT32_MAX);
+#ifdef THREADS
+    } else if (strcmp(word, "--threads") == 0) {
+        options->memory.threads = want_number(word, value, THREADS_MOST);
+    } else if (strcmp(word, "--helpers") == 0) {
+        options->memory.helpers = want_number(word, value, HELPERS_MOST);
+#endif
+    } else {
+        tell_usage(strcmp(word, "--help") == 0);
+    }
+}
+
 static Options options_of(int count, char **words) {
-    Options options = {.memory = {.blocks = 2048, .body_blocks = 256}};
+    Options options = {.memory = {.blocks = BLOCKS_CHOSEN, .body_blocks = 256}};
     for (int i = 1; i < count; i++) {
         const char *const word = words[i];
-        if (strcmp(word, "--heap") == 0) {
-            options.memory.blocks = want_number(word, words[++i], BLOCKS_MOST);
-        } else if (strcmp(word, "--bodies") == 0) {
-            options.memory.body_blocks = want_number(word, words[++i], BLOCKS_MOST);
-        } else if (strcmp(word, "--every") == 0) {
-            options.memory.every = want_number(word, words[++i], UINT32_MAX);
-        } else if (strcmp(word, "--pauses") == 0) {
+        if (strcmp(word, "--pauses") == 0) {
             options.memory.pauses = true;
-        } else if (*word == '-' || options.file) {
-            fputs(usage, strcmp(word, "--help") == 0 ? stdout : stderr);
-            exit(strcmp(word, "--help") == 0 ? 0 : 1);
+        } else if (*word == '-') {
+            want_option(&options, word, words[i + 1]);
+            i++;
+        } else if (options.file) {
+            tell_usage(false);
         } else {
             options.file = word;
         }
@@ -228,17 +301,62 @@ static Options options_of(int count, char **words) {
     return options;
 }
 
+#ifndef THREADS
+/* Where the words ask for threads, another program goes on in this one's place: the same on a heap that threads share, which stands beside
+ * it and has its name with `-threads` behind. */
+static void give_way_to_threads(int count, char **words) {
+    static const char behind[] = "-threads";
+    char path[4096];
+    bool are_wanted = false;
+    for (int i = 1; i < count; i++) are_wanted = are_wanted || strcmp(words[i], "--threads") == 0 || strcmp(words[i], "--helpers") == 0;
+    if (!are_wanted) return;
+    const ssize_t length = readlink("/proc/self/exe", path, sizeof path - sizeof behind);
+    if (length > 0) {
+        memcpy(path + length, behind, sizeof behind);
+        execv(path, words);
+    }
+    fputs("scheme: this program has no heap that threads share: there is none of its name with -threads behind\n", stderr);
+    exit(1);
+}
+#endif
+
+static bool is_output_lost(void) {
+    if (!fflush(stdout) && !ferror(stdout)) return false;
+    fputs("scheme: the output can't be written\n", stderr);
+    return true;
+}
+
+#ifdef THREADS
+static bool tells_pauses;
+
+/* Ends the program from any thread; others go on until it is over. The first that calls ends it. */
+static void end_program(int status) {
+    static bool ends;
+    while (__atomic_exchange_n(&ends, true, __ATOMIC_ACQUIRE)) pause();
+    if (is_output_lost()) status = 1;
+    if (tells_pauses) memory_report(stderr);
+    _exit(status);
+}
+#endif
+
 int main(int count, char **words) {
     static Machine machine;
+#ifndef THREADS
+    give_way_to_threads(count, words);
+#endif
     const Options options = options_of(count, words);
     if (!memory_open(&options.memory)) {
         fputs("scheme: the machine has no memory for such a heap\n", stderr);
         return 1;
     }
     if (setjmp(fault_exit)) return 1; /* the heap is too small for what is always there */
-    machine_open(&machine);
+    machine_open(&machine, options.memory.threads);
+#ifdef THREADS
+    tells_pauses = options.memory.pauses;
+    threads_open(&machine, options.memory.threads, end_program);
+#endif
     syntax_open(&machine);
-    define_state(&machine);
+    define_state();
     run_prelude(&machine);
     int status = 0;
     if (options.file) {
@@ -247,13 +365,16 @@ int main(int count, char **words) {
         run_prompt(&machine);
         if (machine.exit_status > 0) status = machine.exit_status;
     }
-    if (fflush(stdout) || ferror(stdout)) {
-        fputs("scheme: the output can't be written\n", stderr);
-        status = 1;
-    }
+#ifdef THREADS
+    if (threads_are_left()) end_program(status);
+#endif
+    if (is_output_lost()) status = 1;
     if (options.memory.pauses) memory_report(stderr);
     arena_close();
     syntax_close();
+#ifdef THREADS
+    threads_close(&machine);
+#endif
     machine_close(&machine);
     symbols_free();
     memory_close();

@@ -1,9 +1,13 @@
 /*
  * The heap, as the interpreter sees it. SPDX: MIT OR Apache-2.0
  *
- * It has one of three versions, chosen at build: memory_lxr.c on the proved collector, memory_boehm.c on Boehm's, and memory_malloc.c,
- * which never frees. An object has up to OBJECT_MOST references and as many data words; a large object has a body of words alone. Objects
- * are held by sixteen registers, by number. What a register, or an object that a register leads to, holds is kept.
+ * It has one of four versions, chosen at build: memory_lxr.c on the proved collector, memory_threads.c on the one that threads share,
+ * memory_boehm.c on Boehm's, and memory_malloc.c, which never frees. An object has up to OBJECT_MOST references and as many data words; a
+ * large object has a body of words alone. Objects are held by sixteen registers, by number. What a register, or an object that a register
+ * leads to, holds is kept.
+ *
+ * Where threads share the heap (THREADS), each has registers of its own from memory_enter to memory_leave. Register 0 is the same for all:
+ * an object with WORLD_REFERENCES references. An operation on a field is one step. A thread that waits rests meanwhile.
  */
 #ifndef MEMORY_H
 #define MEMORY_H
@@ -19,6 +23,8 @@ typedef struct memory_options {
     uint32_t body_blocks; /* room for bodies of large objects, in such blocks */
     uint32_t every;       /* bytes of new objects between two plain pauses; 0: the version's own choice */
     bool pauses;          /* whether pauses are timed */
+    uint32_t threads;     /* threads beside the first that may be at once */
+    uint32_t helpers;     /* threads that help the collector; 0: the version's own choice */
 } MemoryOptions;
 
 /* Whether there is memory for such a heap. */
@@ -52,5 +58,26 @@ void memory_collect(void);
 
 /* How many pauses there were, by kind, and how long they took. */
 void memory_report(FILE *to);
+
+#ifdef THREADS
+enum { WORLD_REFERENCES = 64 };
+
+/* The thread that calls has registers, or there is no memory for them; the thread that opens the heap has them at once. */
+bool memory_enter(void);
+void memory_leave(void);
+
+/* No pause waits for the thread from here until it wakes, and it calls nothing else of these. */
+void memory_rest(void);
+void memory_wake(void);
+
+/* Takes part in a pause, if one is wanted. A thread that calls nothing else of these for long calls this. */
+void memory_poll(void);
+
+/* The first word of an object that a register holds; whether it holds one. */
+bool memory_first(unsigned base, Word *word);
+#else
+static inline void memory_rest(void) {}
+static inline void memory_wake(void) {}
+#endif
 
 #endif

@@ -21,13 +21,14 @@ static const char *const names[] = {
 void make_real(Machine *machine, unsigned dest, double real) {
     Word word;
     memcpy(&word, &real, sizeof word);
-    machine_new(machine, dest, 0, 1);
-    memory_put(dest, 0, word);
+    static const uint32_t no_sources[1];
+    const Word data[] = {REAL, word}; /* the first where an object says which value it is */
+    machine_new_with(machine, dest, no_sources, 0, data + 1 - HEAD_WORDS, 1 + HEAD_WORDS);
     machine_hold(machine, dest, REAL);
 }
 
 static double real_of(unsigned operand) {
-    const Word word = memory_get(operand, 0);
+    const Word word = memory_get(operand, HEAD_WORDS);
     double real;
     memcpy(&real, &word, sizeof real);
     return real;
@@ -78,7 +79,7 @@ bool test_numbers(const Machine *machine, Opcode op, unsigned left, unsigned rig
 }
 
 bool are_equivalent(const Machine *machine, unsigned left, unsigned right) {
-    return machine->word[left] == REAL && machine->word[right] == REAL && memory_get(left, 0) == memory_get(right, 0);
+    return machine->word[left] == REAL && machine->word[right] == REAL && memory_get(left, HEAD_WORDS) == memory_get(right, HEAD_WORDS);
 }
 
 static bool is_whole(double real) { return isfinite(real) && real == floor(real); }

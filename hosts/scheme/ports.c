@@ -5,6 +5,7 @@
  * a string is an object of a string with room, and of how many bytes are written; where the room ends, a string of twice that takes its
  * place.
  */
+#define _POSIX_C_SOURCE 200809L
 #include "decimal.h"
 #include "primitives.h"
 #include "reader.h"
@@ -19,11 +20,19 @@ enum { PORT_STRING = 0, PORT_USED = 1, LEAST_ROOM = 64 };
 
 static FILE *file_of(const Machine *machine, Word port) { return port == STANDARD_ERROR ? stderr : machine->output; }
 
-/* The string of a port gets room for so many bytes. The first `kept` bytes of the machine's text stay as they are. */
-static void make_room(Machine *machine, unsigned port, size_t wanted, size_t kept) {
-    const size_t used = (size_t)number(memory_get(port, PORT_USED)), room = (size_t)payload(memory_get(port, PORT_STRING));
-    if (wanted <= room) return;
+/* The string of a port stands in the register for it. Answers how many bytes of it are used, which are no more than it has, whatever other
+ * threads write. */
+static size_t load_string(Machine *machine, unsigned port) {
     machine_load(machine, REGISTER_SCRATCH, port, PORT_STRING);
+    const size_t used = (size_t)number(memory_get(port, PORT_USED + HEAD_WORDS)), length = (size_t)payload(machine->word[REGISTER_SCRATCH]);
+    return used < length ? used : length;
+}
+
+/* The string of a port, which the register for it has, gets room for so many bytes. The first `kept` bytes of the machine's text stay as
+ * they are. */
+static void make_room(Machine *machine, unsigned port, size_t used, size_t wanted, size_t kept) {
+    const size_t room = (size_t)payload(machine->word[REGISTER_SCRATCH]);
+    if (wanted <= room) return;
     read_string_text(machine, REGISTER_SCRATCH, 0, used, kept);
     const size_t twice = 2 * room < STRING_MOST ? 2 * room : STRING_MOST;
     make_string_room(machine, REGISTER_SCRATCH, wanted > twice ? wanted : twice);
@@ -36,15 +45,16 @@ static void put_text(Machine *machine, unsigned port, size_t length) {
     const Word word = machine->word[port];
     if (!length) return;
     if (word == STANDARD_OUTPUT || word == STANDARD_ERROR) {
+        memory_rest();
         fwrite(machine->text, 1, length, file_of(machine, word));
+        memory_wake();
         return;
     }
     if (word != OUTPUT_STRING) machine_fault(machine, "not a port for output");
-    const size_t used = (size_t)number(memory_get(port, PORT_USED));
-    make_room(machine, port, used + length, length);
-    machine_load(machine, REGISTER_SCRATCH, port, PORT_STRING);
+    const size_t used = load_string(machine, port);
+    make_room(machine, port, used, used + length, length);
     write_string_text(machine, REGISTER_SCRATCH, used, machine->text, length);
-    memory_put(port, PORT_USED, integer((int64_t)(used + length)));
+    memory_put(port, PORT_USED + HEAD_WORDS, integer((int64_t)(used + length)));
 }
 
 static void put(Machine *machine, unsigned port, const char *bytes, size_t length) {
@@ -113,7 +123,7 @@ static void write_symbol(Machine *machine, unsigned port, const char *name, bool
 
 /* A record is written as the name of its type, without the angles that this may have. */
 static void write_record(Machine *machine, unsigned port, Word word) {
-    const char *const name = symbol_name(machine->records[payload(word)].name);
+    const char *const name = symbol_name(PUBLISHED(program.records)[payload(word)].name);
     const size_t length = strlen(name);
     const bool has_angles = length > 2 && name[0] == '<' && name[length - 1] == '>';
     put_name(machine, port, is_reference(word) ? "#<" : "#<type ");
@@ -123,7 +133,7 @@ static void write_record(Machine *machine, unsigned port, Word word) {
 
 static void write_procedure(Machine *machine, unsigned port, Word word) {
     put_name(machine, port, "#<procedure ");
-    put_name(machine, port, symbol_name(machine->codes[payload(word)].name));
+    put_name(machine, port, symbol_name(PUBLISHED(program.codes)[payload(word)].name));
     put(machine, port, ">", 1);
 }
 
@@ -166,9 +176,10 @@ void write_char(Machine *machine, unsigned dest, unsigned character, unsigned po
 
 /* The object is in the scratch register only: a port's string may be held by the register that gets the port. */
 static void make_port(Machine *machine, unsigned dest, Word port, unsigned string) {
-    machine_new(machine, REGISTER_SCRATCH, 1, 2);
+    machine_new(machine, REGISTER_SCRATCH, 1, 2 + HEAD_WORDS);
+    machine_head(REGISTER_SCRATCH, port);
     if (string) machine_begin(machine, REGISTER_SCRATCH, PORT_STRING, string);
-    memory_put(REGISTER_SCRATCH, PORT_USED, integer(0));
+    memory_put(REGISTER_SCRATCH, PORT_USED + HEAD_WORDS, integer(0));
     machine_hold(machine, REGISTER_SCRATCH, port);
     machine_move(machine, dest, REGISTER_SCRATCH);
 }
@@ -193,33 +204,39 @@ void get_output_string(Machine *machine, unsigned dest, unsigned port, unsigned 
     UNUSED(unused);
     UNUSED(unused_too);
     if (machine->word[port] != OUTPUT_STRING) machine_fault(machine, "get-output-string: not a port of a string for output");
-    const size_t used = (size_t)number(memory_get(port, PORT_USED));
-    machine_load(machine, REGISTER_SCRATCH, port, PORT_STRING);
+    const size_t used = load_string(machine, port);
     read_string_text(machine, REGISTER_SCRATCH, 0, used, 0);
     make_string_of_text(machine, dest, used);
 }
 
 /* Input */
 
+/* The next byte of the standard input, which may have to be waited for. No other thread reads while it is put back. */
+static int read_byte(bool takes) {
+    memory_rest();
+    flockfile(stdin);
+    const int byte = getchar();
+    if (byte != EOF && !takes) ungetc(byte, stdin);
+    funlockfile(stdin);
+    memory_wake();
+    return byte;
+}
+
 /* The next byte of a port, or a number below 0 at its end. */
 static int peek_byte(Machine *machine, const char *name, unsigned port) {
     const Word word = machine->word[port];
-    if (word == STANDARD_INPUT) {
-        const int byte = getchar();
-        return byte == EOF ? EOF : ungetc(byte, stdin);
-    }
+    if (word == STANDARD_INPUT) return read_byte(false);
     if (word != INPUT_STRING) machine_fault(machine, "%s: not a port for input", name);
-    const size_t used = (size_t)number(memory_get(port, PORT_USED));
-    if (used == payload(memory_get(port, PORT_STRING))) return EOF;
-    machine_load(machine, REGISTER_SCRATCH, port, PORT_STRING);
+    const size_t used = load_string(machine, port);
+    if (used == payload(machine->word[REGISTER_SCRATCH])) return EOF;
     return string_byte(machine, REGISTER_SCRATCH, used);
 }
 
 static int take_byte(Machine *machine, const char *name, unsigned port) {
+    if (machine->word[port] == STANDARD_INPUT) return read_byte(true);
     const int byte = peek_byte(machine, name, port);
     if (byte == EOF) return EOF;
-    if (machine->word[port] == STANDARD_INPUT) return getchar();
-    memory_put(port, PORT_USED, memory_get(port, PORT_USED) + integer(1));
+    memory_put(port, PORT_USED + HEAD_WORDS, memory_get(port, PORT_USED + HEAD_WORDS) + integer(1));
     return byte;
 }
 

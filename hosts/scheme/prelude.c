@@ -150,8 +150,12 @@ const char *const prelude[] = {
     "(define (string->list s . range)"
     "  (%range->list (lambda (s i) (string-ref s i)) s (%range 'string->list (string-length s) range)))",
     /* output */
+    /* The port of output is a parameter, whose value stands in a global besides. */
+    "(define %output-cell (cons #f %output))",
     "(define (current-output-port . change)"
-    "  (cond ((null? change) %output) ((null? (cdr change)) (set! %output (car change))) (else (car change))))",
+    "  (cond ((null? change) %output)"
+    "        ((null? (cdr change)) (set-cdr! (%binding %output-cell) (car change)) (set! %output (car change)))"
+    "        (else (cons %output-cell (car change)))))",
     "(define (current-error-port) %errors)",
     "(define (current-input-port) %input)",
     "(define (textual-port? x) (port? x))",
@@ -196,6 +200,19 @@ const char *const prelude[] = {
     "(define (%any-endless? v i mark depth twice)"
     "  (and (< i (vector-length v))"
     "       (or (%endless? (vector-ref v i) mark depth twice) (%any-endless? v (+ i 1) mark depth twice))))",
+#ifdef THREADS
+    /* Labels for what is met again. Others may see what is written, so it stays as it is: `found` is a pair of a list of what is met again,
+     * and of one of all that is met. */
+    "(define (%labels x) (let ((found (list '()))) (%meet x found) (cons 0 (car found))))",
+    "(define (%meet x found)"
+    "  (if (if (vector? x) (> (vector-length x) 0) (pair? x))"
+    "      (cond ((memq x (cdr found)) (if (not (assq x (car found))) (set-car! found (cons (cons x #f) (car found)))))"
+    "            (else"
+    "             (set-cdr! found (cons x (cdr found)))"
+    "             (if (pair? x) (begin (%meet (car x) found) (%meet (cdr x) found)) (%meet-from x 0 found))))))",
+    "(define (%meet-from v i found)"
+    "  (if (< i (vector-length v)) (begin (%meet (vector-ref v i) found) (%meet-from v (+ i 1) found))))",
+#else
     /* Labels for what is met again. Meanwhile the first item of each pair and vector that is met is a pair of `met` or `again`, and of
      * that item; `seen` is a pair of the list of these, at whose end each has its item again. */
     "(define (%first x) (if (pair? x) (car x) (vector-ref x 0)))",
@@ -220,6 +237,7 @@ const char *const prelude[] = {
     "(define (%meet-from v i met again seen)"
     "  (if (< i (vector-length v))"
     "      (begin (%meet (vector-ref v i) met again seen) (%meet-from v (+ i 1) met again seen))))",
+#endif
     "(define (%write-ending x quoted? port) (%write x quoted? port (if (%endless? x #f 0 1) (%labels x) '(0))))",
     "(define (write x . port) (%write-ending x #t (%output-of port)))",
     "(define (display x . port) (%write-ending x #f (%output-of port)))",
@@ -375,18 +393,20 @@ const char *const prelude[] = {
     "    (set! %state (cons inner outer))"
     "    (let ((x (thunk))) (set! %state outer) x)))",
     "(define (dynamic-wind before thunk after) (before) (let ((x (%within (cons before after) thunk))) (after) x))",
-    /* A parameter of no arguments answers its value; one argument becomes its value, and with a second is only converted. */
+    /* A parameter has a cell, whose second is its value unless a binding has one: a pair of that cell and of the value. The bindings are a
+     * list, the innermost first. A parameter of no arguments answers its value; one argument becomes its value; with a second it is
+     * converted, and the binding is answered. */
+    "(define (%binding cell)"
+    "  (let next ((x %bindings)) (cond ((null? x) cell) ((eq? (car (car x)) cell) (car x)) (else (next (cdr x))))))",
     "(define (make-parameter value . convert)"
-    "  (let* ((convert (if (null? convert) (lambda (x) x) (car convert))) (value (convert value)))"
+    "  (let* ((convert (if (null? convert) (lambda (x) x) (car convert))) (cell (cons #f (convert value))))"
     "    (lambda change"
-    "      (cond ((null? change) value) ((null? (cdr change)) (set! value (car change))) (else (convert (car change)))))))",
+    "      (cond ((null? change) (cdr (%binding cell))) ((null? (cdr change)) (set-cdr! (%binding cell) (car change)))"
+    "            (else (cons cell (convert (car change))))))))",
+    "(define (%bind bindings) (set! %bindings bindings) (set! %output (cdr (%binding %output-cell))))",
     "(define (%parameterize others thunk)"
-    "  (let* ((converted (%map (lambda (x) (cons (car x) ((car x) (cdr x) #t))) others))"
-    "         (swap (lambda () (for-each (lambda (x) (let ((old ((car x)))) ((car x) (cdr x)) (set-cdr! x old))) converted))))"
-    "    (dynamic-wind swap thunk swap)))",
-    "(define-syntax parameterize"
-    "  (syntax-rules () ((_ ((parameter value) ...) body ...)"
-    "                    (%parameterize (list (cons parameter value) ...) (lambda () body ...)))))",
+    "  (let* ((outer %bindings) (inner (%append (%map (lambda (x) ((car x) (cdr x) #t)) others) outer)))"
+    "    (dynamic-wind (lambda () (%bind inner)) thunk (lambda () (%bind outer)))))",
     /* exceptions */
     "(define (with-exception-handler handler thunk)"
     "  (if (procedure? handler) (%within handler thunk) (error \"with-exception-handler: not a procedure\")))",
@@ -424,17 +444,124 @@ const char *const prelude[] = {
     "(define (error-object? x) (%record? x %error))",
     "(define (error-object-message e) (%record-ref e 0))",
     "(define (error-object-irritants e) (%record-ref e 1))",
-    "(define (read-error? x) (and (error-object? x) (eq? (%record-ref x 3) 'read)))",
+    "(define (%is-error? x kind) (and (error-object? x) (eq? (%record-ref x 3) kind)))",
+    "(define (read-error? x) (%is-error? x 'read))",
     "(define (file-error? x) #f)",
     "(define (%write-error e port)"
     "  (%write-ending (error-object-message e) #f port)"
-    "  (for-each (lambda (x) (write-char #\\space port) (%write-ending x #t port)) (error-object-irritants e)))",
+    "  (if (%is-error? e 'uncaught) (begin (write-char #\\space port) (%write-raised (car (error-object-irritants e)) port))"
+    "      (for-each (lambda (x) (write-char #\\space port) (%write-ending x #t port)) (error-object-irritants e))))",
+    "(define (%write-raised x port)"
+    "  (if (error-object? x) (%write-error x port)"
+    "      (begin (%write-atom \"not caught: \" #f port) (%write-ending x #t port))))",
     "(define (%tell x at)"
-    "  (if (error-object? x) (begin (%begin-fault (%record-ref x 2)) (%write-error x %errors))"
-    "      (begin (%begin-fault at) (%write-atom \"not caught: \" #f %errors) (%write-ending x #t %errors)))"
+    "  (%begin-fault (if (error-object? x) (%record-ref x 2) at))"
+    "  (%write-raised x %errors)"
     "  (%end-fault))",
     "(define (emergency-exit . status)"
     "  (%exit (cond ((or (null? status) (eq? (car status) #t)) 0) ((eq? (car status) #f) 1) (else (car status)))))",
     "(define (exit . status) (%rewind '()) (apply emergency-exit status))",
+#ifdef THREADS
+    /* threads; the names with a point are fields of records */
+    "(define (thread? x) (%record? x %thread-type))",
+    "(define (make-thread thunk . name)"
+    "  (if (not (procedure? thunk)) (error \"make-thread: not a procedure\"))"
+    "  (let ((t (%record-new %thread.number)))"
+    "    (%record-set! t %thread.number (%thread-new))"
+    "    (%record-set! t %thread.name (if (null? name) #f (car name)))"
+    "    (%record-set! t %thread.thunk thunk)"
+    "    (%record-set! t %thread.bindings %bindings)"
+    "    t))",
+    "(define (current-thread) %thread)",
+    "(define (thread-name t) (%record-ref t %thread.name))",
+    "(define (thread-specific t) (%record-ref t %thread.specific))",
+    "(define (thread-specific-set! t x) (%record-set! t %thread.specific x))",
+    "(define (thread-start! t) (%thread-start t (%record-ref t %thread.number)) t)",
+    "(define (thread-sleep! timeout)"
+    "  (if (not timeout) (error \"thread-sleep!: not a time\"))"
+    "  (%thread-sleep (%moment timeout)))",
+    "(define (%run-thread t)"
+    "  (let ((thunk (%record-ref t %thread.thunk)))"
+    "    (%record-set! t %thread.thunk #f)"
+    "    (%bind (%record-ref t %thread.bindings))"
+    "    (let ((x (%within (lambda (x) (%fail-thread x (%raised-at %state))) thunk))) (%record-set! %thread %thread.result x))))",
+    /* The thread may be another than the one whose continuation it goes on with; the first tells an error as without threads. */
+    "(define (%fail-thread x at)"
+    "  (if (eq? (%record-ref %thread %thread.number) 1) (%tell x at))"
+    "  (%record-set! %thread %thread.result x)"
+    "  (%record-set! %thread %thread.failed-at at)"
+    "  (%thread-end))",
+    "(define (thread-join! t . rest)"
+    "  (cond ((not (%thread-join (%record-ref t %thread.number) (%moment (if (null? rest) #f (car rest)))))"
+    "         (if (or (null? rest) (null? (cdr rest))) (%raise-error 'join-timeout \"thread-join!: the thread goes on\" '())"
+    "             (car (cdr rest))))"
+    "        ((%record-ref t %thread.failed-at)"
+    "         (%raise-error 'uncaught (%failed (%record-ref t %thread.failed-at)) (list (%record-ref t %thread.result))))"
+    "        (else (%record-ref t %thread.result))))",
+    "(define (%failed at)"
+    "  (let ((line (quotient at 536870912)) (column (remainder at 536870912)))"
+    "    (if (= line 0) \"the thread's error:\""
+    "        (string-append \"the thread's error at \" (number->string line) \":\" (number->string column) \":\"))))",
+    "(define (join-timeout-exception? x) (%is-error? x 'join-timeout))",
+    "(define (abandoned-mutex-exception? x) (%is-error? x 'abandoned))",
+    "(define (terminated-thread-exception? x) #f)",
+    "(define (uncaught-exception? x) (%is-error? x 'uncaught))",
+    "(define (uncaught-exception-reason x)"
+    "  (if (uncaught-exception? x) (car (error-object-irritants x)) (error \"uncaught-exception-reason: not of a thread\" x)))",
+    /* times: a moment is one, or a number of seconds from now on */
+    "(define (seconds->time x) (let ((t (%record-new %time.seconds))) (%record-set! t %time.seconds (+ x 0.0)) t))",
+    "(define (time->seconds t) (%record-ref t %time.seconds))",
+    "(define (current-time) (seconds->time (%now)))",
+    "(define (time? x) (%record? x %time-type))",
+    "(define (%moment x) (cond ((not x) x) ((time? x) (time->seconds x)) (else (+ (%now) x))))",
+    /* mutexes and condition variables */
+    "(define (mutex? x) (%record? x %mutex-type))",
+    "(define (make-mutex . name)"
+    "  (let ((m (%record-new %mutex.number)))"
+    "    (%record-set! m %mutex.number (%new-number))"
+    "    (%record-set! m %mutex.name (if (null? name) #f (car name)))"
+    "    m))",
+    "(define (mutex-name m) (%record-ref m %mutex.name))",
+    "(define (mutex-specific m) (%record-ref m %mutex.specific))",
+    "(define (mutex-specific-set! m x) (%record-set! m %mutex.specific x))",
+    "(define (mutex-lock! m . rest)"
+    "  (let* ((number (%record-ref m %mutex.number))"
+    "         (t (if (or (null? rest) (null? (cdr rest))) %thread (car (cdr rest))))"
+    "         (told (%mutex-lock number (if t (%record-ref t %thread.number) 0) (if (null? rest) #f (%moment (car rest))))))"
+    "    (if (not (or (eq? t %thread) (eq? told 0))) (%record-set! m %mutex.owner t))"
+    "    (if (eq? told 2) (%raise-error 'abandoned \"mutex-lock!: the mutex's owner has ended\" '()))"
+    "    (eq? told 1)))",
+    "(define (mutex-unlock! m . rest)"
+    "  (if (or (null? rest) (not (car rest))) (begin (%mutex-unlock (%record-ref m %mutex.number)) #t)"
+    "      (%mutex-wait (%record-ref m %mutex.number) (%record-ref (car rest) %condition.number)"
+    "                   (if (null? (cdr rest)) #f (%moment (car (cdr rest)))))))",
+    /* The owner is a thread that lives, or one that was named as it was locked. */
+    "(define (mutex-state m)"
+    "  (let ((state (%mutex-state (%record-ref m %mutex.number))))"
+    "    (cond ((eq? state #t) 'abandoned) ((eq? state #f) 'not-abandoned) ((eq? state 0) 'not-owned)"
+    "          (else (or (%owner (%thread-find state) state) (%owner (%record-ref m %mutex.owner) state) (mutex-state m))))))",
+    "(define (%owner t number) (and t (eq? (%record-ref t %thread.number) number) t))",
+    "(define (condition-variable? x) (%record? x %condition-type))",
+    "(define (make-condition-variable . name)"
+    "  (let ((c (%record-new %condition.number)))"
+    "    (%record-set! c %condition.number (%new-number))"
+    "    (%record-set! c %condition.name (if (null? name) #f (car name)))"
+    "    c))",
+    "(define (condition-variable-name c) (%record-ref c %condition.name))",
+    "(define (condition-variable-specific c) (%record-ref c %condition.specific))",
+    "(define (condition-variable-specific-set! c x) (%record-set! c %condition.specific x))",
+    "(define (condition-variable-signal! c) (%condition-signal (%record-ref c %condition.number) #f))",
+    "(define (condition-variable-broadcast! c) (%condition-signal (%record-ref c %condition.number) #t))",
+    /* what such a heap doesn't have */
+    "(define (%no-weak . xs) (error \"a heap that threads share has no weak pairs and no guardians yet\"))",
+    "(define weak-cons %no-weak)",
+    "(define make-guardian %no-weak)",
+#else
+    "(define (%no-threads . xs) (error \"threads want the option --threads\"))",
+    "(define make-thread %no-threads)",
+    "(define make-mutex %no-threads)",
+    "(define make-condition-variable %no-threads)",
+    "(define current-thread %no-threads)",
+#endif
     NULL};
 /* clang-format on */

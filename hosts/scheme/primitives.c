@@ -2,6 +2,9 @@
  * The procedures that the machine has itself. SPDX: MIT OR Apache-2.0
  */
 #include "primitives.h"
+#ifdef THREADS
+#include "threads.h"
+#endif
 #include <ctype.h>
 #include <inttypes.h>
 #include <stdlib.h>
@@ -259,6 +262,23 @@ const Primitive primitives[] = {
     CALL_EFFECT("%end-fault", 0, end_fault),
     CALL_EFFECT("%exit", 1, leave),
     CALL_EFFECT("collect", 0, collect),
+#ifdef THREADS
+    CALL("thread-limit", 0, 0, 0, threads_limit),
+    CALL("%thread-new", 0, 0, 0, threads_new),
+    CALL_EFFECT("%thread-start", 2, threads_start),
+    CALL_EFFECT("%thread-end", 0, threads_end),
+    CALL("%thread-join", 2, 2, 0, threads_join),
+    CALL("%thread-find", 1, 1, 0, threads_find),
+    CALL_EFFECT("thread-yield!", 0, threads_yield),
+    CALL_EFFECT("%thread-sleep", 1, threads_sleep),
+    CALL("%now", 0, 0, 0, threads_now),
+    CALL("%new-number", 0, 0, 0, threads_new_number),
+    CALL("%mutex-lock", 3, 3, 0, threads_lock),
+    CALL_EFFECT("%mutex-unlock", 1, threads_unlock),
+    CALL("%mutex-state", 1, 1, 0, threads_state),
+    CALL("%mutex-wait", 3, 3, 0, threads_wait),
+    CALL_EFFECT("%condition-signal", 2, threads_signal),
+#endif
 };
 
 const unsigned primitive_count = sizeof primitives / sizeof *primitives;

@@ -11,7 +11,7 @@ enum { WORD_BYTES = 8, CHUNK_WORDS = 64 };
 
 static size_t words_of(size_t length) { return (length + WORD_BYTES - 1) / WORD_BYTES; }
 
-static bool is_large(size_t length) { return words_of(length) > OBJECT_MOST; }
+static bool is_large(size_t length) { return words_of(length) > FIELDS_MOST; }
 
 static size_t want_string(const Machine *machine, const char *name, unsigned operand) {
     if (kind_of(machine->word[operand]) != KIND_STRING) machine_fault(machine, "%s: not a string", name);
@@ -33,7 +33,7 @@ static void read_words(unsigned string, bool is_body, size_t index, Word *into, 
     if (is_body) {
         memory_read(string, index, into, count);
     } else {
-        memory_get_many(string, (unsigned)index, into, count);
+        memory_get_many(string, (unsigned)index + HEAD_WORDS, into, count);
     }
 }
 
@@ -41,7 +41,7 @@ static void write_words(unsigned string, bool is_body, size_t index, const Word 
     if (is_body) {
         memory_write(string, index, from, count);
     } else {
-        memory_put_many(string, (unsigned)index, from, count);
+        memory_put_many(string, (unsigned)index + HEAD_WORDS, from, count);
     }
 }
 
@@ -63,19 +63,21 @@ void read_string_text(Machine *machine, unsigned string, size_t from, size_t to,
 /* A string that a chunk has room for is made with its words. */
 static void make_short_string(const Machine *machine, unsigned dest, const char *text, size_t length) {
     static const uint32_t no_sources[1];
-    Word chunk[CHUNK_WORDS];
-    chunk[length ? words_of(length) - 1 : 0] = 0;
-    if (length) memcpy(chunk, text, length);
-    machine_new_with(machine, dest, no_sources, 0, chunk, words_of(length));
+    Word chunk[HEAD_WORDS + CHUNK_WORDS];
+    chunk[0] = REFERENCE(KIND_STRING, length); /* unless the string's first word stands there */
+    chunk[HEAD_WORDS + (length ? words_of(length) - 1 : 0)] = 0;
+    if (length) memcpy(chunk + HEAD_WORDS, text, length);
+    machine_new_with(machine, dest, no_sources, 0, chunk, HEAD_WORDS + words_of(length));
 }
 
 static void make_string_object(const Machine *machine, unsigned dest, size_t length) {
     if (length > STRING_MOST) machine_fault(machine, "a string of more than %d bytes", STRING_MOST);
     if (!is_large(length)) {
-        machine_new(machine, dest, 0, (unsigned)words_of(length));
+        machine_new(machine, dest, 0, HEAD_WORDS + (unsigned)words_of(length));
     } else if (!memory_big(dest, (unsigned)((words_of(length) + BODY_BLOCK_WORDS - 1) / BODY_BLOCK_WORDS))) {
         machine_full(machine);
     }
+    machine_head(dest, REFERENCE(KIND_STRING, length));
 }
 
 void make_string_room(Machine *machine, unsigned dest, size_t length) {

@@ -3,6 +3,7 @@
  */
 #include "forms.h"
 #include "arena.h"
+#include "table.h"
 #include <stdio.h>
 #include <stdlib.h>
 #include <string.h>
@@ -82,20 +83,41 @@ Global *global_of(Symbol name) {
     return &globals[name];
 }
 
+/* The entry by which the prelude knows a global. */
+static unsigned prelude_entry(Symbol name) {
+    Global *const global = global_of(name);
+    if (!global->has_prelude_entry) {
+        global->has_prelude_entry = true;
+        global->prelude_entry = machine_add_entry(name);
+    }
+    return global->prelude_entry;
+}
+
+/* What a program's own entry begins as: what the prelude has, where it has something for programs. */
+static void begin_entry(const Global *global, Symbol name) {
+    if (!global->has_prelude_entry || symbol_name(name)[0] == '%') return;
+    if (machine_get_entry(machine, REGISTER_FIRST, global->prelude_entry)) machine_set_entry(machine, global->entry, REGISTER_FIRST);
+}
+
+/* The entry of a global. A program's is another than the prelude's, so that it may be defined anew, and the prelude goes on. */
 static unsigned entry_of(Symbol name) {
     Global *const global = global_of(name);
+    if (is_prelude) return prelude_entry(name);
     if (!global->has_entry) {
         global->has_entry = true;
-        global->entry = machine_add_entry(machine, name);
+        global->entry = machine_add_entry(name);
+        begin_entry(global, name);
     }
     return global->entry;
 }
 
-static Node *global_node(Position at, Symbol name) {
+static Node *entry_node(Position at, unsigned entry) {
     Node *const node = node_at(at, NODE_TABLE, 0);
-    node->entry = entry_of(name);
+    node->entry = entry;
     return node;
 }
+
+static Node *global_node(Position at, Symbol name) { return entry_node(at, entry_of(name)); }
 
 bool is_symbol(const Datum *datum) { return datum->kind == DATUM_WORD && kind_of(datum->word) == KIND_SYMBOL; }
 
@@ -176,19 +198,16 @@ static Node *list_of_items(const Datum *datum) {
 
 Node *global_call(Position at, const char *global, Node *const *arguments, size_t count) {
     Node *const call = node_at(at, NODE_CALL, count + 1);
-    call->nodes[0] = global_node(at, symbol(global));
+    call->nodes[0] = entry_node(at, prelude_entry(symbol(global)));
     for (size_t i = 0; i < count; i++) call->nodes[i + 1] = arguments[i];
     return call;
 }
 
 Node *call_of_global(const char *global, Node *argument) { return global_call(argument->at, global, &argument, 1); }
 
-void syntax_define(const char *name, Word word) {
-    const unsigned entry = entry_of(symbol(name));
-    machine->table[entry] = word;
-}
+void syntax_define(const char *name, Word word) { machine_define(machine, prelude_entry(symbol(name)), word); }
 
-unsigned syntax_entry(const char *name) { return entry_of(symbol(name)); }
+unsigned syntax_entry(const char *name) { return prelude_entry(symbol(name)); }
 
 static void add_constant(Node *set) {
     if (constant_count == constant_room) {
@@ -204,7 +223,7 @@ static Node *quote(const Datum *datum) {
     if (datum->kind == DATUM_WORD) return word_node(datum->at, datum->word);
     if (datum->kind == DATUM_LIST && !datum->count) return word_node(datum->at, EMPTY_LIST);
     Node *const node = node_at(datum->at, NODE_TABLE, 0);
-    node->entry = machine_add_entry(machine, symbol("constant"));
+    node->entry = machine_add_entry(symbol("constant"));
     if (datum->kind == DATUM_STRING || datum->kind == DATUM_REAL) {
         if (datum->kind == DATUM_REAL) {
             make_real(machine, REGISTER_FIRST, datum->real);
@@ -700,8 +719,8 @@ void define_global_macro(Symbol name, Macro *macro) {
 }
 
 unsigned add_record(Position at, Symbol name, size_t fields) {
-    if (fields > OBJECT_MOST) fault(at, "more than %d fields of a record", OBJECT_MOST);
-    return machine_add_record(machine, (RecordType){.name = base_of(name), .fields = (unsigned)fields});
+    if (fields > FIELDS_MOST) fault(at, "more than %d fields of a record", FIELDS_MOST);
+    return machine_add_record((RecordType){.name = base_of(name), .fields = (unsigned)fields});
 }
 
 void want_outermost(const Datum *form, Place place) {
@@ -871,6 +890,7 @@ static const struct {
     {"letrec*", parse_letrec, true},
     {"do", parse_do, true},
     {"guard", parse_guard, true},
+    {"parameterize", parse_parameterize, true},
     {"else", parse_else, true},
     {"=>", parse_else, true},
     {"unquote", parse_else, true},

@@ -87,10 +87,10 @@ Node *syntax_of(const Datum *form);
 /* The expression of a form that was typed: its value is written. */
 Node *syntax_prompt(const Datum *form);
 
-/* A global has a value without a reference. */
+/* A global of the prelude has a value without a reference. */
 void syntax_define(const char *name, Word word);
 
-/* The table's entry of a global. */
+/* The table's entry of a global of the prelude. */
 unsigned syntax_entry(const char *name);
 
 #endif

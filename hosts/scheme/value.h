@@ -46,6 +46,10 @@ enum { TAG_INTEGER = 0, TAG_PLAIN = 1, TAG_REFERENCE = 2, TAG_MASK = 3, KIND_SHI
 #define UNSPECIFIED PLAIN(KIND_CONSTANT, 3)
 #define UNDEFINED PLAIN(KIND_CONSTANT, 4) /* what a variable holds before its definition */
 #define END_OF_FILE PLAIN(KIND_CONSTANT, 5)
+#define DOT PLAIN(KIND_CONSTANT, 6)
+#define CHANGED PLAIN(KIND_CONSTANT, 7) /* what stands for the word of a field whose object alone says what it is; no program sees one */
+#define CLAIMED PLAIN(KIND_CONSTANT, 8) /* a global whose first definition goes on; as undefined */
+#define BOXED_ZERO PLAIN(KIND_CONSTANT, 9)
 #define STANDARD_OUTPUT PLAIN(KIND_PORT, 0)
 #define STANDARD_ERROR PLAIN(KIND_PORT, 1)
 #define STANDARD_INPUT PLAIN(KIND_PORT, 2)

@@ -1,0 +1,166 @@
+/*
+ * The heap on the proved collector, as threads share it. SPDX: MIT OR Apache-2.0
+ *
+ * Each thread of the program has a mutator, whose registers are its machine's; a call here is one of that mutator's operations, or several.
+ * Pauses come by the heap's own pace. There are no large objects, so a long string is an object of parts.
+ */
+#include "memory.h"
+#include "pauses.h"
+#include <lxr_threads.h>
+#include <stdlib.h>
+
+enum { PART_WORDS = OBJECT_MOST, LOG = 16384, LEAST_PACE = 2 * BLOCK_BYTES, SPARE_REGISTER = MEMORY_REGISTERS - 1 };
+
+static lxr_shared_heap *heap;
+static __thread lxr_mutator *mutator;
+
+/* A code that tells a mistake of the interpreter, or a heap that can't go on. */
+__attribute__((noreturn, cold)) static void refuse(lxr_code code) {
+    if (code == LXR_E_LOST || code == LXR_E_USED_UP) {
+        fflush(stdout);
+        fputs(code == LXR_E_LOST ? "scheme: the machine has no memory left\n" : "scheme: the heap is full\n", stderr);
+        _Exit(1);
+    }
+    fprintf(stderr, "scheme: the heap refused a call, with code %u\n", (unsigned)code);
+    abort();
+}
+
+static inline void want(lxr_code code) {
+    if (code != LXR_OK) refuse(code);
+}
+
+/* By the thread that made the pause, while no other goes on. */
+static void note_pause(void *with, const lxr_pause_times *times) {
+    (void)with;
+    pauses_add(times->kind == LXR_KIND_COLLECT ? PAUSE_COLLECTING : PAUSE_PLAIN, times->gathering + times->pausing);
+}
+
+bool memory_open(const MemoryOptions *options) {
+    lxr_shared_heap_settings settings = LXR_SHARED_HEAP_SETTINGS(options->blocks, options->threads + 1);
+    const uint64_t quarter = (uint64_t)options->blocks * BLOCK_BYTES / 4;
+    if (options->helpers) settings.helpers = options->helpers;
+    settings.every = LXR_MOST_EVERY; /* pauses come by what is made */
+    settings.log = LOG;
+    settings.pace = options->every ? options->every : quarter > LEAST_PACE ? quarter : LEAST_PACE;
+    if (options->pauses) settings.paused = note_pause;
+    return lxr_shared_heap_open(&heap, &settings) == LXR_OK && memory_enter();
+}
+
+void memory_close(void) {
+    memory_leave();
+    want(lxr_shared_heap_close(&heap));
+}
+
+bool memory_enter(void) { return lxr_mutator_enter(heap, &mutator) == LXR_OK; }
+
+void memory_leave(void) { want(lxr_mutator_leave(&mutator)); }
+
+void memory_rest(void) { want(lxr_mutator_rest(mutator)); }
+
+void memory_wake(void) { want(lxr_mutator_wake(mutator)); }
+
+void memory_poll(void) { want(lxr_mutator_poll(mutator)); }
+
+bool memory_new(unsigned dest, unsigned references, unsigned words) {
+    const lxr_code code = lxr_mutator_new(mutator, dest, references, words);
+    if (code == LXR_E_FULL || code == LXR_E_USED_UP) return false;
+    want(code);
+    return true;
+}
+
+/* A new object's words are 0. */
+bool memory_new_with(unsigned dest, const uint32_t *sources, size_t references, const Word *data, size_t words) {
+    if (!memory_new(dest, (unsigned)references, (unsigned)words)) return false;
+    for (size_t i = 0; i < references; i++) want(lxr_mutator_store(mutator, dest, (uint32_t)i, sources[i]));
+    for (size_t i = 0; i < words; i++) {
+        if (data[i]) want(lxr_mutator_put(mutator, dest, (uint32_t)i, data[i]));
+    }
+    return true;
+}
+
+void memory_load(unsigned dest, unsigned base, unsigned index) { want(lxr_mutator_load(mutator, dest, base, index)); }
+
+void memory_store(unsigned base, unsigned index, unsigned source) { want(lxr_mutator_store(mutator, base, index, source)); }
+
+Word memory_get(unsigned base, unsigned index) {
+    Word word;
+    want(lxr_mutator_get(mutator, base, index, &word));
+    return word;
+}
+
+bool memory_first(unsigned base, Word *word) {
+    const lxr_code code = lxr_mutator_get(mutator, base, 0, word);
+    if (code == LXR_E_NIL) return false;
+    want(code);
+    return true;
+}
+
+void memory_put(unsigned base, unsigned index, Word word) { want(lxr_mutator_put(mutator, base, index, word)); }
+
+void memory_get_many(unsigned base, unsigned first, Word *into, size_t count) {
+    want(lxr_mutator_get_many(mutator, base, first, into, count));
+}
+
+void memory_put_many(unsigned base, unsigned first, const Word *from, size_t count) {
+    want(lxr_mutator_put_many(mutator, base, first, from, count));
+}
+
+void memory_load_many(unsigned base, unsigned first, const uint32_t *registers, size_t count) {
+    want(lxr_mutator_load_many(mutator, base, first, registers, count));
+}
+
+void memory_move(unsigned dest, unsigned source) { want(lxr_mutator_move(mutator, dest, source)); }
+
+void memory_nil(unsigned dest) { want(lxr_mutator_nil(mutator, dest)); }
+
+bool memory_same(unsigned left, unsigned right) {
+    uint32_t same;
+    want(lxr_mutator_same(mutator, left, right, &same));
+    return same;
+}
+
+/* A long string has one word of its own, and refers to parts. The spare register, which is nil, holds a part for a while. */
+bool memory_big(unsigned dest, unsigned blocks) {
+    const size_t words = (size_t)blocks * BODY_BLOCK_WORDS, parts = (words + PART_WORDS - 1) / PART_WORDS;
+    if (!memory_new(dest, (unsigned)parts, 1)) return false;
+    for (size_t part = 0; part < parts; part++) {
+        const size_t left = words - part * PART_WORDS;
+        if (!memory_new(SPARE_REGISTER, 0, (unsigned)(left < PART_WORDS ? left : PART_WORDS))) return false;
+        memory_store(dest, (unsigned)part, SPARE_REGISTER);
+    }
+    memory_nil(SPARE_REGISTER);
+    return true;
+}
+
+/* How many of some words from an index on are in its part, which the spare register holds then. */
+static size_t load_part(unsigned base, size_t index, size_t count) {
+    const size_t left = PART_WORDS - index % PART_WORDS;
+    memory_load(SPARE_REGISTER, base, (unsigned)(index / PART_WORDS));
+    return count < left ? count : left;
+}
+
+void memory_read(unsigned base, size_t index, Word *into, size_t count) {
+    while (count) {
+        const size_t now = load_part(base, index, count);
+        memory_get_many(SPARE_REGISTER, (unsigned)(index % PART_WORDS), into, now);
+        index += now;
+        into += now;
+        count -= now;
+    }
+    memory_nil(SPARE_REGISTER);
+}
+
+void memory_write(unsigned base, size_t index, const Word *from, size_t count) {
+    while (count) {
+        const size_t now = load_part(base, index, count);
+        memory_put_many(SPARE_REGISTER, (unsigned)(index % PART_WORDS), from, now);
+        index += now;
+        from += now;
+        count -= now;
+    }
+    memory_nil(SPARE_REGISTER);
+}
+
+void memory_collect(void) { want(lxr_mutator_collect(mutator)); }
+
+void memory_report(FILE *to) { pauses_report(to); }
