@@ -12,7 +12,7 @@
 
 enum { WORLD, OBJECT, OTHER, TABLE, FOUND, MADE };
 
-enum { MOST_THREADS = 16, ROUNDS = 200, CALLS = 20000 };
+enum { BLOCKS = 1024, MOST_THREADS = 16, ROUNDS = 200, CALLS = 20000 };
 
 static uint32_t count;
 static lxr_shared_heap *heap;
@@ -111,7 +111,7 @@ int main(int words_count, char **words) {
     pthread_t started[MOST_THREADS];
     count = words_count == 2 ? (uint32_t)strtoul(words[1], NULL, 10) : 0;
     if (count < 1 || count > MOST_THREADS) return 2;
-    lxr_shared_heap_settings settings = LXR_SHARED_HEAP_SETTINGS(LXR_MOST_SHARED_BLOCKS, count);
+    lxr_shared_heap_settings settings = LXR_SHARED_HEAP_SETTINGS(BLOCKS, count);
     settings.helpers = 0;
     settings.log = LXR_MOST_LOG;
     settings.every = LXR_MOST_EVERY;

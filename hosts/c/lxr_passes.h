@@ -45,17 +45,22 @@ typedef struct lxr_station {
     void *block;
 } lxr_station;
 
-/* What a heap is made of; lxr_threads.h says more of it. The first word is the size of it all, as of lxr_settings. */
+/*
+ * What a heap is made of; lxr_threads.h says more of it. The first word is the size of it all, as of lxr_settings. Settings of version 0.2,
+ * which end before `evacuate`, are taken: then that is an eighth of the blocks.
+ */
 typedef struct lxr_passes_settings {
     uint64_t size;     /* sizeof(lxr_passes_settings) */
-    uint32_t blocks;   /* blocks of 32 KB, 1 to 1,024 */
-    uint32_t mutators; /* mutators, 1 to 16 */
+    uint32_t blocks;   /* blocks of 32 KB, 1 to 65,536 */
+    uint32_t mutators; /* mutators, 1 to 255 */
     uint32_t helpers;  /* helpers of each kind, 1 to 8 */
     uint32_t log;      /* entries of a mutator's log, 1 to 65,536 */
     uint32_t remember; /* entries of the remembered set, 1 to 1,048,576 */
     uint32_t every;    /* operations of a mutator in an epoch, 1 to 1,048,576 */
     uint32_t trace;    /* a pause whose number is a multiple of it begins a trace, 1 to 1,000,000 */
     uint32_t within;   /* pauses within which a trace ends, 1 to 1,000,000 */
+    uint32_t evacuate; /* blocks that a trace evacuates at most, 0 to an eighth of all */
+    uint32_t unused;   /* nothing is said here */
 } lxr_passes_settings;
 
 /* ---- A heap ---- */
@@ -83,9 +88,9 @@ lxr_code lxr_passes_resume(lxr_passes *heap);
 /*
  * Closes the epoch and makes a pause, where one is wanted: a collecting one where lxr_station_ask_collect was called in the epoch. Each
  * lxr_station_new that waits has its object after it, if there is room; where there is none, a collecting pause follows, and what then
- * finds no room is answered LXR_E_FULL. A mutator may be ordered 67,108,864 operations until all names are renewed: they are after a pause
- * that collects or ends a trace, where some mutator was ordered more than half as many and no lxr_station_new waited for the pause. Takes
- * no memory.
+ * finds no room is answered LXR_E_FULL. A mutator may be ordered 67,108,864 operations until all names are renewed, and one after the
+ * sixteenth 4,194,304: they are after a pause that collects or ends a trace, where some mutator was ordered more than half of what it may be
+ * and no lxr_station_new waited for the pause. Takes no memory.
  * Codes: LXR_E_NO_HEAP; LXR_E_LOST; LXR_E_ENDED; LXR_E_EPOCH, where none is open; LXR_E_AWAY, where a pass is away; LXR_E_NOT_WANTED;
  * LXR_E_BUSY, where a lxr_station_come_home hasn't come back yet.
  */
@@ -96,7 +101,11 @@ lxr_code lxr_passes_pause(lxr_passes *heap);
  * number of the last pause, counted from the last renewal of names before it: right after a pause that renews names itself it is still
  * counted from the renewal before that, and 1 after the next pause.
  */
-#define LXR_COUNT_ASKED 12u /* operations of the mutator that was ordered most of them, since names were renewed: see LXR_E_USED_UP */
+/*
+ * Operations of the mutator that was ordered most of what it may be, since names were renewed: each of one after the sixteenth counts sixteen
+ * times. At 67,108,864 that mutator's next one is LXR_E_USED_UP.
+ */
+#define LXR_COUNT_ASKED 12u
 
 /*
  * `*number` becomes one of these numbers of the last pause; before the first all are 0.

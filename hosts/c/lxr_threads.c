@@ -17,7 +17,9 @@
 
 #include <pthread.h>
 #include <stdbool.h>
+#include <stddef.h>
 #include <stdlib.h>
+#include <string.h>
 #include <time.h>
 
 /* Operations that the archive lets a mutator be ordered from one renewal of names to the next; fewer where a test says so, with the mock. */
@@ -26,7 +28,9 @@
 #endif
 
 enum {
-    SPARE = 8,  /* operations of an epoch beyond those that a mutator makes before it asks for a pause */
+    SPARE = 8, /* operations of an epoch beyond those that a mutator makes before it asks for a pause */
+    FIRST =
+        16, /* mutators that can be ordered LXR_OPERATIONS; a later one can a sixteenth, of which LXR_COUNT_ASKED counts each as sixteen */
     UNITS = 64, /* units of a helper's work between two looks at whether a pause is wanted */
     APART = 64, /* bytes that keep two mutators' counters off one cache line */
     TOLD = LXR_COUNT_SWEPT + 1,
@@ -39,7 +43,8 @@ enum {
     LEAST_ROOM = 2 * BLOCK,
     MOST_ROOM = 32 * BLOCK,
 
-    /* From so many operations of some mutator on a collecting pause is made, so that names are renewed; and again after so many more. */
+    /* From so many operations of some mutator on, as LXR_COUNT_ASKED counts them, a collecting pause is made, so that names are renewed; and again after
+     * so many more. */
     WORN = LXR_OPERATIONS / 4 * 3,
     FURTHER = LXR_OPERATIONS / 1024
 };
@@ -185,9 +190,16 @@ static void begin_epoch(lxr_shared_heap *heap, struct place *place) {
     place->made = 0;
 }
 
-/* How many operations it may do until it asks for a pause: one at least, since one may wait for its answer. */
+/* After how many operations it asks for a pause: one that can be ordered a sixteenth may have its names renewed sixteen times as often. */
+static uint32_t turn(const lxr_shared_heap *heap, const struct place *place) {
+    uint32_t most = place - heap->places < FIRST ? LXR_MOST_EVERY : LXR_MOST_EVERY / FIRST;
+    return heap->settings.every < most ? heap->settings.every : most;
+}
+
+/* How many operations it may do until then: one at least, since one may wait for its answer. */
 static uint32_t grant(const lxr_shared_heap *heap, const struct place *place) {
-    return place->done < heap->settings.every ? heap->settings.every - place->done : 1;
+    uint32_t most = turn(heap, place);
+    return place->done < most ? most - place->done : 1;
 }
 
 /* How many bytes of objects it may make until it asks for a pause: its part of the pace, less what it has made. */
@@ -732,9 +744,18 @@ static uint32_t start_helpers(lxr_shared_heap *heap) {
 
 /* ---- A heap ---- */
 
+/* Reads settings of this version, or of 0.2, which evacuated an eighth of the blocks; whether their size is one of these. */
+static bool read_settings(lxr_shared_heap_settings *settings, const lxr_shared_heap_settings *from) {
+    const size_t first = offsetof(lxr_shared_heap_settings, evacuate);
+    if (from->size != sizeof *settings && from->size != first) return false;
+    memcpy(settings, from, (size_t)from->size);
+    if (from->size == first) settings->evacuate = settings->blocks / 8;
+    return true;
+}
+
 static bool are_settings(const lxr_shared_heap_settings *settings) {
-    return settings->size == sizeof *settings && settings->mutators >= 1 && settings->mutators <= LXR_MOST_MUTATORS &&
-           settings->helpers <= LXR_MOST_HELPERS && settings->every >= 1 && settings->every <= LXR_MOST_EVERY;
+    return settings->mutators >= 1 && settings->mutators <= LXR_MOST_MUTATORS && settings->helpers <= LXR_MOST_HELPERS &&
+           settings->every >= 1 && settings->every <= LXR_MOST_EVERY;
 }
 
 /* The pace in bytes that settings ask for. */
@@ -758,6 +779,7 @@ static lxr_code open_passes(lxr_shared_heap *heap) {
         .every = asked->every + SPARE,
         .trace = asked->trace,
         .within = asked->within,
+        .evacuate = asked->evacuate,
     };
     lxr_code code = lxr_passes_open(&heap->passes, &settings);
     if (code == LXR_OK) code = lxr_passes_resume(&heap->passes);
@@ -802,14 +824,15 @@ static lxr_shared_heap *make_heap(const lxr_shared_heap_settings *settings) {
     return heap;
 }
 
-lxr_code lxr_shared_heap_open(lxr_shared_heap **handle, const lxr_shared_heap_settings *settings) {
+lxr_code lxr_shared_heap_open(lxr_shared_heap **handle, const lxr_shared_heap_settings *asked) {
+    lxr_shared_heap_settings settings;
     if (*handle) return LXR_E_IN_USE;
-    if (!are_settings(settings)) return LXR_E_SIZE;
-    lxr_shared_heap *heap = make_heap(settings);
+    if (!read_settings(&settings, asked) || !are_settings(&settings)) return LXR_E_SIZE;
+    lxr_shared_heap *heap = make_heap(&settings);
     if (!heap) return LXR_E_MEMORY;
     lxr_code code = open_passes(heap);
     uint32_t helpers = code == LXR_OK ? start_helpers(heap) : 0;
-    if (code == LXR_OK && helpers < settings->helpers) code = LXR_E_MEMORY;
+    if (code == LXR_OK && helpers < settings.helpers) code = LXR_E_MEMORY;
     if (code == LXR_OK) {
         *handle = heap;
     } else {

@@ -1,7 +1,7 @@
 /*
  * lxr_threads.h: a garbage-collected heap that threads share, whose collector is proved. SPDX: MIT OR Apache-2.0
  *
- * The objects are those of lxr.h, without large ones. Up to 16 threads make them, read and write them, and let go of them, all at once.
+ * The objects are those of lxr.h, without large ones. Up to 255 threads make them, read and write them, and let go of them, all at once.
  * Each enters the heap and has a MUTATOR there: sixteen REGISTERS of its own, numbers 0 to 15, and the right to call. A register is nil or
  * holds an object; register 0 holds the WORLD, which is the same object for all mutators and has 64 references: what threads share they
  * find from there. As a thread enters, its other registers are nil. What registers hold is kept, and what kept objects refer to; all else
@@ -41,9 +41,9 @@ typedef struct lxr_shared_heap lxr_shared_heap;
 typedef struct lxr_mutator lxr_mutator;
 
 /* Limits. */
-#define LXR_MOST_MUTATORS      16u      /* mutators that are in a heap at once */
+#define LXR_MOST_MUTATORS      255u     /* mutators that are in a heap at once */
 #define LXR_MOST_HELPERS       8u       /* helpers of a heap */
-#define LXR_MOST_SHARED_BLOCKS 1024u    /* blocks of a heap: 32 MB */
+#define LXR_MOST_SHARED_BLOCKS 65536u   /* blocks of a heap: 2 GB */
 #define LXR_MOST_LOG           65536u   /* entries of a mutator's log */
 #define LXR_MOST_REMEMBER      1048576u /* entries of the remembered set */
 #define LXR_MOST_EVERY         1000000u /* operations of a mutator between two pauses */
@@ -68,12 +68,18 @@ typedef struct lxr_pause_times {
  * pace. LXR_PACE_ROOM is half of the bytes of all blocks here, whatever lives, but at least 64 KB and at most 1 MB. By LXR_PACE_NEVER bytes
  * want no pause.
  *
- * `every` counts operations besides. The archive bounds it, so a mutator wants a pause after LXR_MOST_EVERY operations at the latest.
+ * `every` counts operations besides. The archive bounds it, so a mutator wants a pause after LXR_MOST_EVERY operations at the latest, and one
+ * after the sixteenth after a sixteenth of that.
+ *
+ * `evacuate` is how many blocks a trace chooses at most as it begins, among those of whose 128 lines some are taken, and at most 32: in a
+ * heap of up to 1,024 blocks the first ones, and in a larger one those with the fewest. What lives in them as the trace ends is copied elsewhere by that
+ * pause, which is the longer for it, and they are whole again. By 0 none is, and what is old stays where it is. Settings of version 0.2, which
+ * end before `evacuate`, are taken: then that is an eighth of the blocks.
  */
 typedef struct lxr_shared_heap_settings {
     uint64_t size;     /* sizeof(lxr_shared_heap_settings) */
-    uint32_t blocks;   /* blocks of 32 KB, 1 to 1,024 */
-    uint32_t mutators; /* mutators that may be in it at once, 1 to 16 */
+    uint32_t blocks;   /* blocks of 32 KB, 1 to 65,536 */
+    uint32_t mutators; /* mutators that may be in it at once, 1 to 255 */
     uint32_t helpers;  /* threads of its own that do work of pauses ahead, 0 to 8: each lowers counts and traces */
     uint32_t log;      /* overwritten references that a mutator records between two pauses, 1 to 65,536: full, it wants a pause */
     uint32_t remember; /* references that a trace remembers, 1 to 1,048,576 */
@@ -85,12 +91,20 @@ typedef struct lxr_shared_heap_settings {
     void (*paused)(void *with, const lxr_pause_times *times);
     void *with; /* what it is told besides */
 
-    uint64_t pace; /* bytes of new objects between two pauses, or LXR_PACE_NEVER, or LXR_PACE_ROOM */
+    uint64_t pace;     /* bytes of new objects between two pauses, or LXR_PACE_NEVER, or LXR_PACE_ROOM */
+    uint32_t evacuate; /* blocks that a trace evacuates at most, 0 to an eighth of all */
+    uint32_t unused;   /* nothing is said here */
 } lxr_shared_heap_settings;
 
-/* Settings that mostly do, for so many blocks and mutators: plain pauses come by the size of the heap, and traces by themselves. */
+/*
+ * Settings that mostly do, for so many blocks and mutators: plain pauses come by the size of the heap, and traces by themselves, each of which
+ * evacuates an eighth of the blocks at most, and at most 64. `blocks` is evaluated more than once.
+ */
 #define LXR_SHARED_HEAP_SETTINGS(blocks, mutators) \
-    { sizeof(lxr_shared_heap_settings), (blocks), (mutators), 1, 1024, 65536, 65536, 16, 4, 0, 0, LXR_PACE_ROOM }
+    { \
+        sizeof(lxr_shared_heap_settings), (blocks), (mutators), 1, 1024, 65536, 65536, 16, 4, 0, 0, LXR_PACE_ROOM, \
+            (uint32_t)((blocks) < 512 ? (blocks) / 8 : 64), 0 \
+    }
 
 /* ---- A heap ---- */
 
@@ -160,7 +174,8 @@ lxr_code lxr_mutator_poll(lxr_mutator *mutator);
  * lxr_mutator_poll, _pause and _collect have these codes before their own: LXR_E_NO_HEAP, where the handle is null; LXR_E_RESTS, where the
  * mutator rests; LXR_E_LOST, where there was no memory to go on after a pause, so that the heap is only to be left and closed. A mutator
  * lives for ever: objects are given new names now and then, by a collecting pause. Only a heap that is so full through sixteen million
- * operations that at each of these pauses an object waited for room has none left to give: then an operation says LXR_E_USED_UP.
+ * operations, or one million of a mutator after the sixteenth, that at each of these pauses an object waited for room has none left to give:
+ * then an operation says LXR_E_USED_UP.
  */
 
 /*

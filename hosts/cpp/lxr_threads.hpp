@@ -118,12 +118,12 @@ using local_list = detail::holder_list<local>;
 /// A heap that threads share. It is moved and not copied, and that, as its end, while no mutator is in it.
 class shared_heap {
 public:
-    /// Opens a heap of 1 to 1,024 blocks of 32 KB, for 1 to 16 mutators at once, with the header's settings: plain pauses by the size of the
-    /// heap, and traces by themselves.
+    /// Opens a heap of 1 to 65,536 blocks of 32 KB, for 1 to 255 mutators at once, with the header's settings: plain pauses by the size of the
+    /// heap, and traces by themselves, each of which evacuates an eighth of the blocks at most, and at most 64.
     shared_heap(std::uint32_t blocks, std::uint32_t mutators)
         : shared_heap(lxr_shared_heap_settings LXR_SHARED_HEAP_SETTINGS(blocks, mutators)) {}
 
-    /// Opens a heap of these settings, among them the pace, and starts its helpers. Its `paused` is told of each pause by the thread that
+    /// Opens a heap of these settings, among them the pace and what a trace evacuates, and starts its helpers. Its `paused` is told of each pause by the thread that
     /// made it, and throws nothing.
     explicit shared_heap(const lxr_shared_heap_settings& settings) {
         lxr_shared_heap* opened = nullptr;

@@ -1,4 +1,5 @@
 //! A case: how a script is played, and the script.
+use lxr_graph::Op;
 use lxr_shared_heap::Settings;
 use lxr_text_script::{Script, read_script};
 use std::alloc::Global;
@@ -54,16 +55,33 @@ impl<'a> Case<'a> {
 
     /// What the heap is opened with.
     pub fn settings(&self) -> Settings {
+        let blocks = self.setting("blocks", 64);
         Settings {
-            blocks: self.setting("blocks", 64),
-            mutators: self.script.threads,
+            blocks,
+            mutators: self.mutators(),
             helpers: self.helpers(),
             log: self.setting("log", 1024),
             remember: self.setting("remember", 4096),
+            evacuate: self.setting("evacuate", blocks / 8),
             every: self.setting("every", 1024),
             trace: self.setting("trace", 8),
             within: self.setting("within", 4),
             names: true,
+        }
+    }
+
+    /// How many mutators there are.
+    pub fn mutators(&self) -> u8 {
+        let threads = u32::from(self.script.threads);
+        self.setting("mutators", threads).min(255) as u8
+    }
+
+    /// What a mutator orders: what a thread of the script does, each thread in turn.
+    pub fn operations_of(&self, number: usize) -> &[Op] {
+        let threads = self.script.operations.as_slice();
+        match threads.get(number % threads.len().max(1)) {
+            Some(operations) => operations.as_slice(),
+            None => &[],
         }
     }
 

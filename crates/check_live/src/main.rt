@@ -1,9 +1,9 @@
 //! Plays scripts on a heap that threads share, and prints what a run of the script prints without counts.
 //!
 //! The input is a table of cases. Each begins with a line `== case` whose further words say how it is played, and has the script behind that. Each thread
-//! of the script is a mutator, and a thread of the machine plays it: it orders an operation when it has seen the last reply, and comes home where a
-//! pause is wanted. Whoever finds all at home makes the pause. A case is answered by its first line, the reports of all pauses, and the replies
-//! of each thread.
+//! of the script is a mutator; where there are more mutators, each thread in turn is several. A thread of the machine plays each: it orders an operation
+//! when it has seen the last reply, and comes home where a pause is wanted. Whoever finds all at home makes the pause. A case is answered by its first line,
+//! the reports of all pauses, and the replies of each thread.
 //!
 //! | Word | What it says |
 //! |---|---|
@@ -11,8 +11,10 @@
 //! | `race` | threads order as they come, beside helpers; this is so without `turns` |
 //! | `help` | with `turns`: helpers take turns too |
 //! | `order` | with `turns`: the order of calls and pauses is printed behind the replies |
+//! | `moved` | how many objects the ends of traces moved is printed last |
+//! | `mutators=N` | how many mutators there are; else as many as the script has threads |
 //! | `helpers=N` | how many decrementers there are, and as many tracers |
-//! | `blocks=N`, `log=N`, `remember=N`, `every=N`, `trace=N`, `within=N` | the settings of the heap, which have the defaults of a run |
+//! | `blocks=N`, `log=N`, `remember=N`, `evacuate=N`, `every=N`, `trace=N`, `within=N` | the settings of the heap, which have the defaults of a run |
 #![tactic(auto)]
 
 mod board;

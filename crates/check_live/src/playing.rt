@@ -46,8 +46,8 @@ fn add_mutators(
     players: &mut Vec<Player>,
     way: Way,
 ) -> Result<(), AllocError> {
-    for operations in case.script.operations.as_slice() {
-        add(alloc, players, way, operations.as_slice())?;
+    for number in 0..usize::from(case.mutators()) {
+        add(alloc, players, way, case.operations_of(number))?;
     }
     Ok(())
 }
@@ -104,7 +104,7 @@ pub fn play<R: Threads + Wait + Sync>(
     players: &mut [Player],
 ) -> Board {
     let seed = case.turns().unwrap_or(0);
-    let mutators = case.script.operations.len();
+    let mutators = usize::from(case.mutators());
     let shared = Shared::new(Board::new(alloc, heap, mutators, players.len(), seed));
     play_all(rt, alloc, &shared, players);
     shared.into_board()

@@ -60,7 +60,7 @@ fn print_replies(
     players: &[Player],
     text: &mut Plenty,
 ) -> Result<(), WriteError> {
-    let mutators = usize::from(case.script.threads).min(players.len());
+    let mutators = usize::from(case.mutators()).min(players.len());
     print_players(&players[..mutators], text)?;
     if case.has("order") {
         print_order(&board.order, text)
@@ -82,8 +82,23 @@ pub fn tell<R: AllocGlobal + Print>(
     }
 }
 
-/// Tells the reports and the replies of a case that was played.
+/// Tells what came of a case that was played, and how many objects were moved, where that is asked for.
 fn tell_played<R: AllocGlobal + Print>(
+    rt: &R,
+    case: &Case<'_>,
+    board: &Board,
+    players: &[Player],
+) -> io::Result<()> {
+    tell_reports(rt, case, board, players)?;
+    if case.has("moved") {
+        println!(rt; "moved {}", board.watching.moved)
+    } else {
+        Ok(())
+    }
+}
+
+/// Tells the reports and the replies of a case.
+fn tell_reports<R: AllocGlobal + Print>(
     rt: &R,
     case: &Case<'_>,
     board: &Board,

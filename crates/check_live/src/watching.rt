@@ -48,6 +48,8 @@ impl Serving {
 #[derive(Drop)]
 pub struct Watching {
     pub reports: Plenty,
+    /// How many objects were moved out of blocks that traces evacuated.
+    pub moved: u64,
     is_behind: bool,
     pauses: Vec<Seen>,
     /// Whether memory ran out.
@@ -59,6 +61,7 @@ impl Watching {
     pub fn new(alloc: Global) -> Watching {
         Watching {
             reports: Plenty::new(alloc),
+            moved: 0,
             is_behind: false,
             pauses: Vec::new(alloc),
             is_lost: false,
@@ -137,6 +140,7 @@ impl Watching {
 
     /// Sees a space after a pause.
     fn see_behind(&mut self, space: &Space) {
+        self.moved = space.tally.moved;
         if let Some(last) = self.pauses.last_mut() {
             last.behind = space.tally.news;
             last.collects = matches!(space.report.kind, Kind::Collect);

@@ -18,6 +18,7 @@ const LIMITS: Limits = Limits {
     threads: 1,
     log: 1024,
     remember: 4096,
+    evacuate: 0,
 };
 
 /// What a run left.

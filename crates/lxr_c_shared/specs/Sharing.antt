@@ -1,5 +1,5 @@
 -- What calls do at a heap that threads share.
-use Rattle.std.specs.Prelude.{◌≡◌, ◌↔◌, ◌⊎◌, ℕ, Bool, true, false, ◌<◌, ◌==◌, ◌||◌, nat_lt, if◌then◌else◌, Option, None, Some, List, length, Result, Ok, Err}
+use Rattle.std.specs.Prelude.{◌≡◌, ◌↔◌, ◌⊎◌, ℕ, Bool, true, false, ◌/◌, ◌<◌, ◌==◌, ◌||◌, nat_lt, if◌then◌else◌, Option, None, Some, List, length, Result, Ok, Err}
 use Rattle.lxr_graph.specs.declared.report.Kind.{Kind}
 use Rattle.lxr_graph.specs.declared.report.Kind.TheVariants as kind
 use Rattle.lxr_graph.specs.History.{Item, PauseReport}
@@ -16,7 +16,7 @@ use Rattle.lxr_c_base.specs.declared.codes.Code.{Code}
 use Rattle.lxr_c_base.specs.declared.codes.Code.TheVariants as code
 use Rattle.lxr_c_shared.specs.declared.owned.Owned.{Owned}
 use Rattle.lxr_c_shared.specs.declared.owned.Owned.TheVariants as owned
-use Rattle.lxr_c_shared.specs.declared.settings.TheConstants.{WISHES_BYTES}
+use Rattle.lxr_c_shared.specs.declared.settings.TheConstants.{FIRST_WISHES_BYTES, WISHES_BYTES}
 use Rattle.lxr_c_shared.specs.declared.settings.Wishes.{Wishes}
 use Rattle.lxr_c_shared.specs.declared.sharing.OfPause.{OfPause}
 use Rattle.lxr_c_shared.specs.declared.sharing.OfPause.TheVariants as of
@@ -26,13 +26,20 @@ use Rattle.lxr_c_shared.specs.Holding.{MayHold}
 
 -- ---- opening
 
--- The settings that are wished for; none where their size isn't known, or there are more threads or helpers than any heap has. No names are told.
+-- how many blocks a trace is to evacuate at most: an eighth of all where settings of version 0.2 don't say it; none where their size isn't known
+abbrev pub evacuate_of : Wishes → Option ℕ
+evacuate_of w = if w.size == WISHES_BYTES then Some w.evacuate else (if w.size == FIRST_WISHES_BYTES then Some (w.blocks / 8) else None)
+
+-- the settings that are wished for, where so many blocks are to be evacuated; none where there are more threads or helpers than any heap has; no names are told
+abbrev pub settings_with : Wishes → Option ℕ → Option Settings
+settings_with w None = None
+settings_with w (Some evacuate) =
+    if nat_lt 255 w.mutators || nat_lt 8 w.helpers then None
+    else Some (record { blocks = w.blocks; mutators = w.mutators; helpers = w.helpers; log = w.log; remember = w.remember; evacuate = evacuate; every = w.every; trace = w.trace; within = w.within; names = false })
+
+-- the settings that are wished for; none where their size isn't known either
 abbrev pub settings_of : Wishes → Option Settings
-settings_of w =
-    if w.size == WISHES_BYTES
-    then (if nat_lt 16 w.mutators || nat_lt 8 w.helpers then None
-    else Some (record { blocks = w.blocks; mutators = w.mutators; helpers = w.helpers; log = w.log; remember = w.remember; every = w.every; trace = w.trace; within = w.within; names = false }))
-    else None
+settings_of w = settings_with w (evacuate_of w)
 
 -- they are settings, each in its range
 abbrev pub AreFit : Wishes → Type 0

@@ -1,13 +1,16 @@
 //! What a program in C says of a heap that threads share.
 ghost use Rattle.std.specs.Prelude.{◌≡◌};
-ghost use Rattle.lxr_c_shared.specs.Sharing.{settings_of as is_settings_of};
+ghost use Rattle.lxr_c_shared.specs.Sharing.{evacuate_of as is_evacuate_of, settings_of as is_settings_of};
 
 use lxr_shared_heap::Settings;
 
 /// The bytes of the settings that are known.
-pub const WISHES_BYTES: u64 = 40;
+pub const WISHES_BYTES: u64 = 48;
 
-/// The settings of a heap, as `lxr_passes_settings` has them: first how many bytes they are.
+/// The bytes of the settings of version 0.2, which don't say how many blocks are evacuated.
+pub const FIRST_WISHES_BYTES: u64 = 40;
+
+/// The settings of a heap, as `lxr_passes_settings` has them: first how many bytes they are. What stands after so many isn't read.
 #[repr(C)]
 #[derive(Drop)]
 pub struct Wishes {
@@ -20,6 +23,22 @@ pub struct Wishes {
     pub every: u32,
     pub trace: u32,
     pub within: u32,
+    pub evacuate: u32,
+    /// Nothing is said by these bytes.
+    pub unused: u32,
+}
+
+/// How many blocks a trace is to evacuate at most: an eighth of all where settings of version 0.2 don't say it; none where their size isn't known.
+fn evacuate_of(wishes: &Wishes) -> Option<u32>
+    ensures { result ≡ is_evacuate_of wishes.now }
+{
+    if wishes.size == WISHES_BYTES {
+        Some(wishes.evacuate)
+    } else if wishes.size == FIRST_WISHES_BYTES {
+        Some(wishes.blocks / 8)
+    } else {
+        None
+    }
 }
 
 /// The settings of a heap that are wished for; none where their size isn't known, or there are more threads or helpers than any heap has. No
@@ -27,10 +46,8 @@ pub struct Wishes {
 pub(crate) fn settings_of(wishes: &Wishes) -> Option<Settings>
     ensures { result ≡ is_settings_of wishes.now }
 {
-    if wishes.size != WISHES_BYTES {
-        return None;
-    }
-    if wishes.mutators > 16 || wishes.helpers > 8 {
+    let evacuate = evacuate_of(wishes)?;
+    if wishes.mutators > 255 || wishes.helpers > 8 {
         return None;
     }
     Some(Settings {
@@ -39,6 +56,7 @@ pub(crate) fn settings_of(wishes: &Wishes) -> Option<Settings>
         helpers: wishes.helpers as u8,
         log: wishes.log,
         remember: wishes.remember,
+        evacuate,
         every: wishes.every,
         trace: wishes.trace,
         within: wishes.within,

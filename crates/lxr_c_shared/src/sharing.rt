@@ -99,7 +99,7 @@ fn count_asked(heap: &Heap) -> Result<u64, Code>
     ensures { CountsAsked heap.now result }
 {
     match heap.asked_most() {
-        Some(most) => Ok(u64::from(most)),
+        Some(most) => Ok(most),
         None => Err(Code::Epoch),
     }
 }

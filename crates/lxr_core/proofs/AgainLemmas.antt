@@ -38,7 +38,7 @@ pub next_may : (places : List Place) (before after : List AnyActor) (n : ℕ) (d
 next_may places before after n d is less may = may n (slice_index_or after n d) (next_before places before after n d is less)
 
 -- and its registers are there
-registers_at : (places : List Place) (actors : List AnyActor) (n : ℕ) (a : AnyActor) → AreInOrder actors → length places ≡ 16 * length (mutators_in actors) → length (mutators_in actors) ≤ 16
+registers_at : (places : List Place) (actors : List AnyActor) (n : ℕ) (a : AnyActor) → AreInOrder actors → length places ≡ 16 * length (mutators_in actors) → length (mutators_in actors) ≤ 255
     → slice_get actors n ≡ Some a → HasRegisters places n a
 registers_at places actors n (any.Mutator m) order many few there =
     let inside = slice_get_within (mutators_in actors) n m (mutator_at actors n m order there) in
@@ -47,7 +47,7 @@ registers_at places actors n (any.Decrementer d) order many few there = tt
 registers_at places actors n (any.Tracer d) order many few there = tt
 
 pub next_registers : (places : List Place) (before after : List AnyActor) (n : ℕ) (d : AnyActor) → HaveStarted places before after n → n < length before
-    → AreInOrder before → length places ≡ 16 * length (mutators_in before) → length (mutators_in before) ≤ 16 → HasRegisters places n (slice_index_or after n d)
+    → AreInOrder before → length places ≡ 16 * length (mutators_in before) → length (mutators_in before) ≤ 255 → HasRegisters places n (slice_index_or after n d)
 next_registers places before after n d is less order many few = registers_at places before n (slice_index_or after n d) order many few (next_before places before after n d is less)
 
 -- the registers of a thread are held places

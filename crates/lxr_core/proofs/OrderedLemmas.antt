@@ -9,6 +9,7 @@ use Rattle.lxr_mutator.specs.Mutating.{Mutating, op_now}
 use Rattle.lxr_mutator.specs.Mutators.{MayTakeOrder}
 use Rattle.lxr_mutator.specs.Naming.{without_names}
 use Rattle.lxr_mutator.specs.Orders.{ordered, takes_order, with_order}
+use Rattle.lxr_mutator.proofs.MostLemmas.{few_operations}
 use Rattle.lxr_mutator.proofs.OrderLemmas.{takes_order_decides, with_order_stays}
 use Rattle.lxr_core_invariant.specs.ThreadStates.{ThreadState}
 use Rattle.lxr_core_invariant.specs.EpochStates.{Beginning, EpochState, limits_of}
@@ -62,8 +63,10 @@ module _ (b : Beginning) (s : EpochState) (words : List ℕ) (n : ℕ) (m : Muta
       ap (λ z. record (showing.with_order (told_state h m) o) { stage = z }) (sym stage')
       ∙ ap (λ (x : Mutating). record (showing.with_order (told_state h m) o) { stage = stage_in (with_order m o) m.phase; replies = x.replies.items }) (sym (ordered_told m.names h m o))
       ∙ sym (shown_told h (with_order m o) told) in
-      let few = may.few in
-      let may_be : MayBeOrdered (told_state h m) o = record { stage = stage; formed = may.operation.0; endless = may.operation.1; few = omega (arith, few) } in
+      let room = may.room in
+      let most = shows.mutator.sound.setup.most in
+      let few = few_operations m.thread in
+      let may_be : MayBeOrdered (told_state h m) o = record { stage = stage; formed = may.operation.0; endless = may.operation.1; few = omega (arith, room, most, few) } in
       let steady = subst (IsSteadyIn m) may.ready shows.mutator.steady in
       record {
         epoch = subst (λ v. IsEpoch b (record s { thread_states = slice_set s.thread_states n v })) same (orders_keep_epochs b s n (told_state h m) o shows.epoch shown may_be);

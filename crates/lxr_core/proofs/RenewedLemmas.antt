@@ -40,6 +40,7 @@ module _ (m : Mutating) (before : ℕ) where
           operations = All-drop IsOperation (length m.replies.items) m.operations is.setup.operations;
           few = omega (arith, fewer, few);
           room = omega (arith, fewer, room);
+          most = is.setup.most;
           indexes = is.setup.indexes;
           every = is.setup.every;
           before = few_before;

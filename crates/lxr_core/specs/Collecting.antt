@@ -55,9 +55,9 @@ pub record MayGive (room : ℕ) (m : Mutating) : Type 0 where
 pub record MayTake (s : Space) (m : Mutating) : Type 0 where
   pub registers : length s.registers.items + 16 ≤ s.registers.room
   pub logged : length s.logged.items + length m.log.items ≤ s.logged.room
-  pub news : s.tally.news ≤ 2 ^ 32
-  pub loads : s.tally.loads ≤ 2 ^ 32
-  pub stores : s.tally.stores ≤ 2 ^ 32
+  pub news : s.tally.news ≤ 2 ^ 34
+  pub loads : s.tally.loads ≤ 2 ^ 34
+  pub stores : s.tally.stores ≤ 2 ^ 34
 
 -- an actor may give up what it has, and a space has room for it: a helper gives nothing
 abbrev pub ActorMayGive : ℕ → AnyActor → Type 0
@@ -110,7 +110,7 @@ holding s mutators = record s {
 -- there are no more mutators than a space has room for, and each may give up what it has
 pub record MayAllGive (s : Space) (actors : List AnyActor) : Type 0 where
   pub order : AreInOrder actors
-  pub few : length (mutators_in actors) ≤ 16
+  pub few : length (mutators_in actors) ≤ 255
   pub registers : 16 * length (mutators_in actors) ≤ s.registers.room
   pub logged : length (mutators_in actors) * s.limits.log ≤ s.logged.room
   pub each : (i : ℕ) (m : Mutating) → slice_get (mutators_in actors) i ≡ Some m → MayGive s.limits.log m

@@ -35,7 +35,7 @@ MayAllStart actors = (i : ℕ) (a : AnyActor) → slice_get actors i ≡ Some a 
 
 -- these places have the registers of the mutator of a number; a helper has none
 abbrev pub HasRegisters : List Place → ℕ → AnyActor → Type 0
-HasRegisters places number (any.Mutator m) = (number < 16) × (16 * (number + 1) ≤ length places)
+HasRegisters places number (any.Mutator m) = (number < 255) × (16 * (number + 1) ≤ length places)
 HasRegisters places number (any.Decrementer d) = ⊤
 HasRegisters places number (any.Tracer d) = ⊤
 

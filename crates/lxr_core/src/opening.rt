@@ -35,7 +35,7 @@ pub fn open_epoch(space: &mut Space, actors: &mut [AnyActor])
 fn start_all(actors: &mut [AnyActor], places: &[Place])
     requires order { AreInOrder actors.old }
     requires registers { length places.now ≡ 16 * length (mutators_in actors.old) }
-    requires few { length (mutators_in actors.old) ≤ 16 }
+    requires few { length (mutators_in actors.old) ≤ 255 }
     requires held { All IsHeld places.now }
     requires rest { MayAllStart actors.old }
     ensures { HaveStarted places.now actors.old actors.new (length actors.old) }
@@ -47,7 +47,7 @@ fn start_all(actors: &mut [AnyActor], places: &[Place])
 
 /// The registers of the thread of a number.
 pub(crate) fn registers_of(places: &[Place], number: usize) -> [Place; 16]
-    requires number { number < 16 }
+    requires number { number < 255 }
     requires registers { 16 * (number + 1) ≤ length places.now }
     ensures { result ≡ registers_in places.now number }
 {

@@ -1,5 +1,5 @@
 -- Each access's action does the access: a lemma for each access, and all of them as one.
-use Rattle.std.proofs.Common.{◌≡◌, ◌≢◌, ℕ, ◌+◌, ◌-◌, ◌*◌, ◌/◌, ◌%◌, ◌^◌, ◌<◌, ◌≤◌, refl, sym, ap, subst, ◌∙◌, inl, inr, cond, arith, lit<, true, false, List, [], length, length-set, nat_eq}
+use Rattle.std.proofs.Common.{◌≡◌, ◌≢◌, ℕ, ◌+◌, ◌-◌, ◌*◌, ◌/◌, ◌%◌, ◌^◌, ◌<◌, refl, sym, ap, subst, ◌∙◌, inl, inr, cond, arith, lit<, true, false, List, [], length, length-set, nat_eq}
 use Rattle.std.specs.Prelude.{◌==◌, slice_index, slice_index_or, slice_set}
 use Rattle.std.specs.Int.Bits.{bit_and, bit_or}
 use Rattle.std.proofs.Math.Nat.{mod-eq_of_lt}
@@ -129,7 +129,7 @@ table_entry_below l r are (Cursor number) h = below l 14 r.cursors number (lit< 
 -- a space has fewer than 2^32 words
 total_fits : (l : Limits) → AreLimits l → region_begin l all_regions < 2 ^ 32
 total_fits l are =
-    let decs = mul-le l.threads (l.log + 16) 16 65552 are.threads.1 (omega arith) in
+    let decs = mul-le l.threads (l.log + 16) 255 65552 are.threads.1 (omega arith) in
     omega arith
 
 -- so the word of an entry has its index

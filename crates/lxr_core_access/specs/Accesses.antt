@@ -1,6 +1,5 @@
 -- What one atomic step does to the tables of a space, and which action on which word does it.
-use Rattle.std.specs.Prelude.{◌≡◌, ◌≢◌, ℕ, ◌+◌, ◌-◌, ◌*◌, ◌/◌, ◌%◌, ◌^◌, ◌<◌, Bool, true, false, nat_eq}
-use Rattle.std.specs.Int.{bit_at}
+use Rattle.std.specs.Prelude.{◌≡◌, ◌≢◌, ℕ, ◌+◌, ◌-◌, ◌*◌, ◌/◌, ◌%◌, ◌^◌, ◌<◌, true, false}
 use Rattle.lxr_tables.specs.declared.counts.TheConstants.{COUNTS_IN_WORD}
 use Rattle.lxr_tables.specs.Entries.{all_but, is_set}
 use Rattle.lxr_layout.specs.declared.TheConstants.{COUNT_BITS, GRANULES_IN_BLOCK, LINES_IN_BLOCK, STUCK, WORDS_IN_BLOCK}

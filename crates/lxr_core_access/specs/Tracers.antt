@@ -36,21 +36,21 @@ pub data Tracing : Type 0 where
   -- no place of its pocket needs work: it looks at the tracing word
   FindsNothing : Tracing
 
--- the access of its next step; between two units none is told, since its pocket says which it is
-abbrev pub tracer_access : Tracing → Option Access
-tracer_access Rests = None
-tracer_access (AsksGray place) = Some (access.Look (table_entry.Gray (granule_of place)))
-tracer_access (AsksObject place gray) = Some (access.Look (table_entry.Start (granule_of place)))
-tracer_access (Marks place) = Some (access.SetMark (granule_of place))
-tracer_access (ReadsShape place) = Some (access.Look (table_entry.Heap (first_word place)))
-tracer_access (Scans place refs index) = Some (access.Look (table_entry.Heap (field_word place index)))
-tracer_access (AsksReferent place refs index referent) = Some (access.Look (table_entry.Start (granule_of referent)))
-tracer_access (GraysReferent place refs index referent) = Some (access.SetGray (granule_of referent))
-tracer_access (AsksBlock place refs index referent) = Some (access.Look (table_entry.State (granule_of referent / GRANULES_IN_BLOCK)))
-tracer_access (ReadsReuse place refs index) = Some (access.Look (table_entry.Reuse (field_word place index / WORDS_IN_LINE)))
-tracer_access (DrawsNumber place refs index counter) = Some (access.Draw REMEMBERED_CURSOR)
-tracer_access (Enters place refs index counter number) = Some (access.PutRemembered number (word_of_entry counter (record { 0 = place }) index))
-tracer_access FindsNothing = Some (access.Look (table_entry.Cursor TRACING_WORD))
+-- the access of its next step in a heap of so many blocks; between two units none is told, since its pocket says which it is
+abbrev pub tracer_access : ℕ → Tracing → Option Access
+tracer_access blocks Rests = None
+tracer_access blocks (AsksGray place) = Some (access.Look (table_entry.Gray (granule_of place)))
+tracer_access blocks (AsksObject place gray) = Some (access.Look (table_entry.Start (granule_of place)))
+tracer_access blocks (Marks place) = Some (access.SetMark (granule_of place))
+tracer_access blocks (ReadsShape place) = Some (access.Look (table_entry.Heap (first_word place)))
+tracer_access blocks (Scans place refs index) = Some (access.Look (table_entry.Heap (field_word place index)))
+tracer_access blocks (AsksReferent place refs index referent) = Some (access.Look (table_entry.Start (granule_of referent)))
+tracer_access blocks (GraysReferent place refs index referent) = Some (access.SetGray (granule_of referent))
+tracer_access blocks (AsksBlock place refs index referent) = Some (access.Look (table_entry.State (granule_of referent / GRANULES_IN_BLOCK)))
+tracer_access blocks (ReadsReuse place refs index) = Some (access.Look (table_entry.Reuse (field_word place index / WORDS_IN_LINE)))
+tracer_access blocks (DrawsNumber place refs index counter) = Some (access.Draw REMEMBERED_CURSOR)
+tracer_access blocks (Enters place refs index counter number) = Some (access.PutRemembered number (word_of_entry blocks counter (record { 0 = place }) index))
+tracer_access blocks FindsNothing = Some (access.Look (table_entry.Cursor TRACING_WORD))
 
 -- what comes once a reference is scanned, or the object's shape was read: the reference of this index, or the end of the unit
 abbrev pub scanned_next : (place refs index : ℕ) → Tracing
@@ -104,5 +104,5 @@ pub data Attempts (blocks : ℕ) : Tracing → Tracing → Type 0 where
 pub record TracerSteps (blocks remember : ℕ) (t : Tables) (before : Tracing) (access : Access) (after : Tracing) : Type 0 where
   pub about : Tracing
   pub attempts : Attempts blocks before about
-  pub access_is : tracer_access about ≡ Some access
+  pub access_is : tracer_access blocks about ≡ Some access
   pub goes : TracerGoes blocks remember t about after

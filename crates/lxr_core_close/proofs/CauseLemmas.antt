@@ -2,16 +2,14 @@
 use Rattle.std.proofs.Common.{◌≡◌, ℕ, ◌+◌, ◌-◌, ◌≤◌, sym, ap, subst, ◌∙◌, inl, inr, arith, List, [], ◌∷◌, ◌++◌, length}
 use Rattle.std.specs.Prelude.{Some, option_map, slice_get, slice_index_or}
 use Rattle.std.proofs.lemmas.Option.{get_or_from_slice_get, slice_get-map}
-use Rattle.lxr_layout.specs.Spaces.{most_chosen}
 use Rattle.lxr_graph.specs.declared.Op.TheVariants as op
 use Rattle.lxr_graph.specs.History.{calls_of}
 use Rattle.lxr_model.specs.Belongs.{IsCauseOf, calls_since_pause, is_new, next_operation, writes_reference}
 use Rattle.lxr_model.specs.Moments.{moment}
 use Rattle.lxr_model.specs.Terms.{Terms}
-use Rattle.lxr_layout.specs.Spaces.{most_chosen}
 use Rattle.lxr_invariant.specs.Listed.{FreeBlocksAreListed}
 use Rattle.lxr_core_invariant.specs.ThreadStates.{ThreadState}
-use Rattle.lxr_core_invariant.specs.EpochStates.{Beginning, EpochState, moment_of}
+use Rattle.lxr_core_invariant.specs.EpochStates.{Beginning, EpochState, limits_of, moment_of}
 use Rattle.lxr_core_invariant.specs.Epoch.{AreResting, IsEpoch}
 use Rattle.lxr_core_invariant.specs.Laws.{AllBlocksAreTaken, HasClosingLogs}
 use Rattle.lxr_core_invariant.specs.Through.{CausesPause, next_by}
@@ -37,12 +35,12 @@ cause_of b s terms i v taken is whole rest closing are shown (inr (inl turn)) = 
 cause_of b s terms i v taken is whole rest closing are shown (inr (inr (inl block))) =
     let next = next_is s i v shown (is.called.threads i v shown) in
     let all = taken b s is whole rest block.1 in
-    let blocks = are.blocks in
     let at : moment terms.threads s.history ≡ moment_of b s = ap (λ z. moment z s.history) are.threads in
     inr (inr (inl (
       ap is_new (next ∙ block.0.2),
-      subst (λ m. terms.blocks - most_chosen terms.blocks ≤ length m.unreclaimed + length m.made) (sym at)
-          (subst (λ n. n - most_chosen n ≤ length (moment_of b s).unreclaimed + length (moment_of b s).made) (sym blocks) all),
+      subst (λ m. terms.blocks - terms.evacuate ≤ length m.unreclaimed + length m.made) (sym at)
+          (subst (λ n. n - terms.evacuate ≤ length (moment_of b s).unreclaimed + length (moment_of b s).made) (sym are.blocks)
+          (subst (λ n. (limits_of b).blocks - n ≤ length (moment_of b s).unreclaimed + length (moment_of b s).made) (sym are.evacuate) all)),
     )))
 cause_of b s terms i v taken is whole rest closing are shown (inr (inr (inr entry))) =
     let next = next_is s i v shown (is.called.threads i v shown) in

@@ -262,8 +262,8 @@ holds_closed b s words tally is closing counted hands =
     let bare : HasMarks t before.state.graph b.abstract_state.at before.unreclaimed =
     marks_stay o t (limits_of b).blocks b.abstract_state.at before.state.graph (members before) before.unreclaimed opened.image.image (λ n h. in_first before.unreclaimed before.made n h) opened.bits.starts is.fixed.counts opened.marks in
     let marked = marks_unmoved t before m b.abstract_state.at s.at opened.follows is.lives one still bare in
-    let blocks : HasBlocks t (limits_of b).blocks b.abstract_state.moment.trace =
-    blocks_still o t (limits_of b).blocks b.abstract_state.moment.trace (ap (λ (z : Tables). z.states) late)
+    let blocks : HasBlocks t (limits_of b) b.abstract_state.moment.trace =
+    blocks_still o t (limits_of b) b.abstract_state.moment.trace (ap (λ (z : Tables). z.states) late)
     (is.fixed.cursors TRACING_WORD (λ e. absurd (omega arith)) (λ e. absurd (omega arith)) (λ e. absurd (omega arith)) (λ e. absurd (omega arith)) (λ e. absurd (omega arith))) opened.blocks in
     record {
       space = record { limits = opened.space.limits; size = ap (λ (z : Tables). z.size) hands.rest ∙ ap (λ (z : Tables). z.size) late ∙ opened.space.size };
@@ -290,7 +290,7 @@ holds_closed b s words tally is closing counted hands =
             (ap (λ p. state_in o (granule_of p / GRANULES_IN_BLOCK)) (sym (still n (subst (λ us. IsTrue (has us n)) one.unreclaimed member))) ∙ (free_kept b s u is hands (granule_of (s.at n) / GRANULES_IN_BLOCK) free).0);
         outs = λ line out free. let was = free_kept b s u is hands (line / LINES_IN_BLOCK) free in opened.unused.outs line (was.1 line refl out) was.0;
       };
-      blocks = subst (λ (z : Option Trace). HasBlocks u (limits_of b).blocks z) (sym one.trace) (blocks_kept t u (limits_of b).blocks b.abstract_state.moment.trace (λ c. keeps_state (drawn_in b s) t u c hands) (ap (λ f. f 8) cursors) blocks);
+      blocks = subst (λ (z : Option Trace). HasBlocks u (limits_of b) z) (sym one.trace) (blocks_kept t u (limits_of b) b.abstract_state.moment.trace (λ c. keeps_state (drawn_in b s) t u c hands) (ap (λ f. f 8) cursors) blocks);
       rest = record {
         rest = inl is.begins.listed.no_rest;
         apart = λ n o k member covers. elim (leb_tells b.space.rest_end k) [ inl c ↦ inr c.1 | inr c ↦ let low = c.1 in let none = is.begins.listed.no_rest in inl (omega (arith, low, none)) ];

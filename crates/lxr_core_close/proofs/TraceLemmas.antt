@@ -92,7 +92,7 @@ module _ (l : Limits) (t u : Tables) (blocks : ℕ) (m : Moment) (at : Name → 
     k,
     subst (λ z. k < z) (sym cursor_stays) drawn,
     room,
-    ap (λ (z : Tables). z.remembered k) rest ∙ word ∙ ap (λ c. word_of_entry c (record { 0 = at n }) i) (sym (counter_stays n i member within)),
+    ap (λ (z : Tables). z.remembered k) rest ∙ word ∙ ap (λ c. word_of_entry l.blocks c (record { 0 = at n }) i) (sym (counter_stays n i member within)),
   )
   entry_stays n i member within (inr over) = inr (subst (λ z. l.remember < z) (sym cursor_stays) over)
 
@@ -148,7 +148,7 @@ module _ (b : Beginning) (s : EpochState) (u : Tables) (is : IsEpoch b s) (closi
         inside = subst (λ z. MarksStayInside z m s.at trace) (sym rest) (inside_later s.tables u.outs u.reuse u.states m s.at entries trace (closing.inside trace runs));
         handled = subst (λ z. HandledAreGray z m s.at) (sym rest) covers.handled;
         remembered = remembered_later (limits_of b) s.tables u (limits_of b).blocks m s.at trace rest is.image.placed.image reuse states began.snapshot (closing.remembered trace began.snapshot runs began.reachable);
-        few = subst (λ z. rememberable trace began.snapshot ≤ most_remembered (limits_of b).blocks * (z + 1)) (sym one.number) began.few;
+        few = subst (λ z. rememberable trace began.snapshot ≤ most_remembered (limits_of b) * (z + 1)) (sym one.number) began.few;
       }
 
   traced_so_far : (trace : Option Trace) → m.trace ≡ trace → IsTracedBy (limits_of b) u entries (closed_state b s) trace

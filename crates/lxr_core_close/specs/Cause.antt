@@ -16,6 +16,7 @@ use Rattle.lxr_core_invariant.specs.Through.{AllEnded, EndsAreCounted, IsPauseWa
 pub record AreTermsOf (b : Beginning) (terms : Terms) : Type 0 where
   pub threads : terms.threads ≡ (limits_of b).threads
   pub blocks : terms.blocks ≡ (limits_of b).blocks
+  pub evacuate : terms.evacuate ≡ (limits_of b).evacuate
   pub log : terms.log ≡ (limits_of b).log
   pub every : terms.every ≡ b.every
 

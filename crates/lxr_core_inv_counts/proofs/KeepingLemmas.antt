@@ -104,31 +104,31 @@ counts_stay : (t : Tables) → AgreesOnCounts t t
 counts_stay t = record { counts = refl; dones = refl; decs = refl; cursor = refl; number = refl }
 
 -- each step of a tracer
-tracer_leaves : (t : Tables) (d : Tracing) → CountsStayBy t (tracer_access d)
-tracer_leaves t Rests = tt
-tracer_leaves t (AsksGray place) = counts_stay t
-tracer_leaves t (AsksObject place gray) = counts_stay t
-tracer_leaves t (Marks place) = record { counts = refl; dones = refl; decs = refl; cursor = refl; number = refl }
-tracer_leaves t (ReadsShape place) = counts_stay t
-tracer_leaves t (Scans place refs index) = counts_stay t
-tracer_leaves t (AsksReferent place refs index referent) = counts_stay t
-tracer_leaves t (GraysReferent place refs index referent) = record { counts = refl; dones = refl; decs = refl; cursor = refl; number = refl }
-tracer_leaves t (AsksBlock place refs index referent) = counts_stay t
-tracer_leaves t (ReadsReuse place refs index) = counts_stay t
-tracer_leaves t (DrawsNumber place refs index counter) = record {
+tracer_leaves : (blocks : ℕ) (t : Tables) (d : Tracing) → CountsStayBy t (tracer_access blocks d)
+tracer_leaves blocks t Rests = tt
+tracer_leaves blocks t (AsksGray place) = counts_stay t
+tracer_leaves blocks t (AsksObject place gray) = counts_stay t
+tracer_leaves blocks t (Marks place) = record { counts = refl; dones = refl; decs = refl; cursor = refl; number = refl }
+tracer_leaves blocks t (ReadsShape place) = counts_stay t
+tracer_leaves blocks t (Scans place refs index) = counts_stay t
+tracer_leaves blocks t (AsksReferent place refs index referent) = counts_stay t
+tracer_leaves blocks t (GraysReferent place refs index referent) = record { counts = refl; dones = refl; decs = refl; cursor = refl; number = refl }
+tracer_leaves blocks t (AsksBlock place refs index referent) = counts_stay t
+tracer_leaves blocks t (ReadsReuse place refs index) = counts_stay t
+tracer_leaves blocks t (DrawsNumber place refs index counter) = record {
   counts = refl;
   dones = refl;
   decs = refl;
   cursor = changed_other t.cursors REMEMBERED_CURSOR (t.cursors REMEMBERED_CURSOR + 1) DECREMENT_CURSOR (λ e. absurd (omega arith));
   number = changed_other t.cursors REMEMBERED_CURSOR (t.cursors REMEMBERED_CURSOR + 1) DECREMENT_COUNT (λ e. absurd (omega arith));
 }
-tracer_leaves t (Enters place refs index counter number) = record { counts = refl; dones = refl; decs = refl; cursor = refl; number = refl }
-tracer_leaves t FindsNothing = counts_stay t
+tracer_leaves blocks t (Enters place refs index counter number) = record { counts = refl; dones = refl; decs = refl; cursor = refl; number = refl }
+tracer_leaves blocks t FindsNothing = counts_stay t
 
 pub tracers_keep_counts : TracersKeepCounts
 tracers_keep_counts b s i access after is may =
     counted_still (limits_of b).blocks s.tables (done_to s.tables access) s.decrementers b.abstract_state.moment b.abstract_state.at
-    (subst (CountsStayBy s.tables) may.steps.access_is (tracer_leaves s.tables may.steps.about)) is.counted
+    (subst (CountsStayBy s.tables) may.steps.access_is (tracer_leaves (limits_of b).blocks s.tables may.steps.about)) is.counted
 
 -- ---- the opening
 

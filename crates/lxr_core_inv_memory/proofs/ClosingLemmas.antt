@@ -54,7 +54,7 @@ draws_bound b s draws is one = total_bound (λ v. length v.replies + draws v.sta
     omega (arith, replies, few, draw))
 
 -- few threads with few replies leave a cursor far below 2^63
-far : (cursor sum thread_states threads : ℕ) → cursor ≤ sum → sum ≤ thread_states * (MOST_OPERATIONS + 2) → thread_states ≡ threads → threads ≤ 16 → cursor < 2 ^ 63
+far : (cursor sum thread_states threads : ℕ) → cursor ≤ sum → sum ≤ thread_states * (MOST_OPERATIONS + 2) → thread_states ≡ threads → threads ≤ 255 → cursor < 2 ^ 63
 far cursor sum thread_states threads a b c d = omega (arith, a, b, c, d)
 
 -- the cursors of runs and of blocks stay below 2^63
@@ -187,7 +187,7 @@ block_has b s is whole rest drawn (suc n) below unchosen = elim (free_or_taken b
       used_has b s k.0 (suc n) rest k.2 (is.drawn.used k.0 (omega (arith, listed, fixed, drawn)) listed)
 ]
 
--- so objects are at least as many as such blocks, and at most an eighth of all is Chosen
+-- so objects are at least as many as such blocks, and no more are Chosen than may be
 pub all_blocks_are_taken : AllBlocksAreTaken
 all_blocks_are_taken b s is whole rest drawn =
     let many = pigeonhole (opening_tables b) (λ n. granule_of (s.at n) / GRANULES_IN_BLOCK) (members (moment_of b s)) (limits_of b).blocks (block_has b s is whole rest drawn) in

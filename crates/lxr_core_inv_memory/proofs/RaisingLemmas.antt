@@ -10,7 +10,7 @@ use Rattle.lxr_core_access.specs.Decrementers.{Decrementing, Rests, AsksCount, A
 use Rattle.lxr_core_access.specs.Tracers.{Tracing, AsksGray, AsksObject, Marks, ReadsShape, Scans, AsksReferent, GraysReferent, AsksBlock, ReadsReuse, DrawsNumber, Enters, FindsNothing, tracer_access}
 use Rattle.lxr_core_access.specs.Tracers as tracing
 use Rattle.lxr_core_invariant.specs.ThreadStates.{ThreadState}
-use Rattle.lxr_core_invariant.specs.EpochStates.{Beginning, EpochState}
+use Rattle.lxr_core_invariant.specs.EpochStates.{Beginning, EpochState, limits_of}
 use Rattle.lxr_core_invariant.specs.Events.{Event}
 use Rattle.lxr_core_invariant.specs.Events as event
 use Rattle.lxr_core_invariant.specs.Happening.{happen}
@@ -91,25 +91,25 @@ decrementer_raises t (Draws count) = λ c. raised t.cursors DECREMENT_CURSOR (t.
 decrementer_raises t (ReadsEntry number) = still t
 
 -- each step of a tracer
-tracer_raises : (t : Tables) (d : Tracing) → RaisesBy t (tracer_access d)
-tracer_raises t tracing.Rests = tt
-tracer_raises t (AsksGray place) = still t
-tracer_raises t (AsksObject place gray) = still t
-tracer_raises t (Marks place) = still t
-tracer_raises t (ReadsShape place) = still t
-tracer_raises t (Scans place refs index) = still t
-tracer_raises t (AsksReferent place refs index referent) = still t
-tracer_raises t (GraysReferent place refs index referent) = still t
-tracer_raises t (AsksBlock place refs index referent) = still t
-tracer_raises t (ReadsReuse place refs index) = still t
-tracer_raises t (DrawsNumber place refs index counter) = λ c. raised t.cursors REMEMBERED_CURSOR (t.cursors REMEMBERED_CURSOR + 1) c (omega arith)
-tracer_raises t (Enters place refs index counter number) = still t
-tracer_raises t FindsNothing = still t
+tracer_raises : (blocks : ℕ) (t : Tables) (d : Tracing) → RaisesBy t (tracer_access blocks d)
+tracer_raises blocks t tracing.Rests = tt
+tracer_raises blocks t (AsksGray place) = still t
+tracer_raises blocks t (AsksObject place gray) = still t
+tracer_raises blocks t (Marks place) = still t
+tracer_raises blocks t (ReadsShape place) = still t
+tracer_raises blocks t (Scans place refs index) = still t
+tracer_raises blocks t (AsksReferent place refs index referent) = still t
+tracer_raises blocks t (GraysReferent place refs index referent) = still t
+tracer_raises blocks t (AsksBlock place refs index referent) = still t
+tracer_raises blocks t (ReadsReuse place refs index) = still t
+tracer_raises blocks t (DrawsNumber place refs index counter) = λ c. raised t.cursors REMEMBERED_CURSOR (t.cursors REMEMBERED_CURSOR + 1) c (omega arith)
+tracer_raises blocks t (Enters place refs index counter number) = still t
+tracer_raises blocks t FindsNothing = still t
 
 -- no cursor falls
 pub cursors_dont_fall : CursorsDontFall
 cursors_dont_fall = record {
   mutators = λ b s i v e is may. mutators_raise b s i v e (word_low (s.tables.cursors PAUSE_WORD) is.fixed.word);
   decrementers = λ b s i access after may. subst (RaisesBy s.tables) may.steps.access_is (decrementer_raises s.tables may.steps.about);
-  tracers = λ b s i access after may. subst (RaisesBy s.tables) may.steps.access_is (tracer_raises s.tables may.steps.about);
+  tracers = λ b s i access after may. subst (RaisesBy s.tables) may.steps.access_is (tracer_raises (limits_of b).blocks s.tables may.steps.about);
 }

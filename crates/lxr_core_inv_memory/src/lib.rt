@@ -49,7 +49,7 @@ pub fn cursors_dont_fall()
 {}
 
 /// Where all mutators rest and each listed block is drawn, there are at least as many objects as blocks that aren't Chosen, and these
-/// are all but an eighth.
+/// are all but as many as may be chosen for evacuation.
 pub fn all_blocks_are_taken()
     ensures { AllBlocksAreTaken }
 {}

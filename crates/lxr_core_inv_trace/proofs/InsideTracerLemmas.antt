@@ -30,23 +30,23 @@ marked_by (Marks place) = Some place
 marked_by _ = None
 
 -- a tracer's access marks at most one object, makes at most one gray, and claims none
-access_sets : (t : Tables) (d : Tracing) → SetsBits t (after_access t (tracer_access d)) (marked_by d) (grayed_by d)
-access_sets t (Marks place) = record {
+access_sets : (blocks : ℕ) (t : Tables) (d : Tracing) → SetsBits t (after_access t (tracer_access blocks d)) (marked_by d) (grayed_by d)
+access_sets blocks t (Marks place) = record {
   marks = λ k set. elim (changed_cases t.marks (granule_of place) true k) [ inl q ↦ inr (place, refl, q.0) | inr q ↦ inl (sym q.1 ∙ set) ];
   stay_marked = λ k set. elim (changed_cases t.marks (granule_of place) true k) [ inl q ↦ q.1 | inr q ↦ q.1 ∙ set ];
   grays = λ k set. inl set;
 }
-access_sets t (GraysReferent place refs index referent) = record {
+access_sets blocks t (GraysReferent place refs index referent) = record {
   marks = λ k set. inl set;
   stay_marked = λ k set. set;
   grays = λ k set. elim (changed_cases t.grays (granule_of referent) true k) [ inl q ↦ inr (referent, refl, q.0) | inr q ↦ inl (sym q.1 ∙ set) ];
 }
-access_sets t _ = record { marks = λ k set. inl set; stay_marked = λ k set. set; grays = λ k set. inl set }
+access_sets blocks t _ = record { marks = λ k set. inl set; stay_marked = λ k set. set; grays = λ k set. inl set }
 
-access_dones : (t : Tables) (d : Tracing) → (after_access t (tracer_access d)).dones ≡ t.dones
-access_dones t Rests = refl
-access_dones t (AsksGray place) = refl
-access_dones t _ = refl
+access_dones : (blocks : ℕ) (t : Tables) (d : Tracing) → (after_access t (tracer_access blocks d)).dones ≡ t.dones
+access_dones blocks t Rests = refl
+access_dones blocks t (AsksGray place) = refl
+access_dones blocks t _ = refl
 
 -- what it tries first has nothing loaded, nor has it at the next reference
 try_unloaded : (blocks p : ℕ) (d : Tracing) → IsTry blocks d → grayed_by d ≡ Some p → ⊥
@@ -148,12 +148,12 @@ module _ (b : Beginning) (s : EpochState) (is : IsEpoch b s) (trace : Trace) (ru
 
     -- no object is claimed
     dones_stay : then_tables.dones ≡ s.tables.dones
-    dones_stay = subst (λ (o : Option Access). (after_access s.tables o).dones ≡ s.tables.dones) may.steps.access_is (access_dones s.tables about)
+    dones_stay = subst (λ (o : Option Access). (after_access s.tables o).dones ≡ s.tables.dones) may.steps.access_is (access_dones (limits_of b).blocks s.tables about)
 
     pub trace_inside : StaysInside then_tables now s.at (slice_set s.tracers i after) trace
     trace_inside = record {
       marks = bits_inside s.tables then_tables now s.at trace (marked_by about) (grayed_by about)
-          (subst (λ (o : Option Access). SetsBits s.tables (after_access s.tables o) (marked_by about) (grayed_by about)) may.steps.access_is (access_sets s.tables about))
+          (subst (λ (o : Option Access). SetsBits s.tables (after_access s.tables o) (marked_by about) (grayed_by about)) may.steps.access_is (access_sets (limits_of b).blocks s.tables about))
           (record {
             marked_inside = mark_inside about at_about;
             grayed_inside = gray_inside about at_about;

@@ -31,20 +31,20 @@ try_forgets blocks d (pocket place some within) k = k
 try_forgets blocks d (nothing) k = k
 
 -- who remembers nothing draws no number
-undrawn_still : (t : Tables) (d : Tracing) → ¬ IsRemembering d → (after_access t (tracer_access d)).cursors REMEMBERED_CURSOR ≡ t.cursors REMEMBERED_CURSOR
-undrawn_still t (DrawsNumber place refs index counter) none = absurd (none tt)
-undrawn_still t Rests none = refl
-undrawn_still t (AsksGray place) none = refl
-undrawn_still t (AsksObject place gray) none = refl
-undrawn_still t (Marks place) none = refl
-undrawn_still t (ReadsShape place) none = refl
-undrawn_still t (Scans place refs index) none = refl
-undrawn_still t (AsksReferent place refs index referent) none = refl
-undrawn_still t (GraysReferent place refs index referent) none = refl
-undrawn_still t (AsksBlock place refs index referent) none = refl
-undrawn_still t (ReadsReuse place refs index) none = refl
-undrawn_still t (Enters place refs index counter number) none = refl
-undrawn_still t FindsNothing none = refl
+undrawn_still : (blocks : ℕ) (t : Tables) (d : Tracing) → ¬ IsRemembering d → (after_access t (tracer_access blocks d)).cursors REMEMBERED_CURSOR ≡ t.cursors REMEMBERED_CURSOR
+undrawn_still blocks t (DrawsNumber place refs index counter) none = absurd (none tt)
+undrawn_still blocks t Rests none = refl
+undrawn_still blocks t (AsksGray place) none = refl
+undrawn_still blocks t (AsksObject place gray) none = refl
+undrawn_still blocks t (Marks place) none = refl
+undrawn_still blocks t (ReadsShape place) none = refl
+undrawn_still blocks t (Scans place refs index) none = refl
+undrawn_still blocks t (AsksReferent place refs index referent) none = refl
+undrawn_still blocks t (GraysReferent place refs index referent) none = refl
+undrawn_still blocks t (AsksBlock place refs index referent) none = refl
+undrawn_still blocks t (ReadsReuse place refs index) none = refl
+undrawn_still blocks t (Enters place refs index counter number) none = refl
+undrawn_still blocks t FindsNothing none = refl
 
 -- an object of the heap begins in one of its blocks
 block_within : (blocks p refs : ℕ) → 1 ≤ p → 2 * (p - 1) + 1 + refs ≤ 4096 * blocks → (p - 1) / 2048 < blocks
@@ -108,5 +108,5 @@ module _ (b : Beginning) (s : EpochState) (is : IsEpoch b s) (unchosen : NoneCho
           | inl p ↦ step_forgets (limits_of b).remember may.steps.about after (about_knows i may.before may.steps.about may.shows may.steps.attempts) forgets may.steps.goes (subst IsRemembering p.1 k)
           | inr p ↦ idle.none j f p.1 k
         ];
-        drawn = ap (λ o. (after_access s.tables o).cursors REMEMBERED_CURSOR) (sym may.steps.access_is) ∙ undrawn_still s.tables may.steps.about forgets ∙ idle.drawn;
+        drawn = ap (λ o. (after_access s.tables o).cursors REMEMBERED_CURSOR) (sym may.steps.access_is) ∙ undrawn_still (limits_of b).blocks s.tables may.steps.about forgets ∙ idle.drawn;
       }

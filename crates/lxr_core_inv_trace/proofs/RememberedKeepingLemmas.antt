@@ -1,11 +1,9 @@
 -- All actors keep what is remembered: mutators only clear unlogged bits, decrementers change nothing that it reads, and each step of a tracer keeps
 -- it.
-use Rattle.std.proofs.Common.{◌≡◌, ◌≢◌, ℕ, ◌≤◌, refl, sym, ap, subst, ◌∙◌, inl, inr, arith, false, true}
+use Rattle.std.proofs.Common.{◌≡◌, ℕ, refl, sym, ap, subst, ◌∙◌, inl, inr, arith, false, true}
 use Rattle.std.specs.Prelude.{Option, Some, None, slice_get}
 use Rattle.lxr_layout.specs.declared.Name.{Name}
-use Rattle.lxr_layout.specs.declared.TheConstants.{FREE_BLOCK_CURSOR, MOST_BLOCKS_REMEMBERED, PAUSE_WORD, REMEMBERED_CURSOR, RUN_CURSOR}
-use Rattle.lxr_layout.proofs.SpaceLemmas.{chosen_in_small}
-use Rattle.lxr_invariant.specs.Lines.{chosen_count}
+use Rattle.lxr_layout.specs.declared.TheConstants.{FREE_BLOCK_CURSOR, PAUSE_WORD, REMEMBERED_CURSOR, RUN_CURSOR}
 use Rattle.lxr_image.specs.Tables.{Tables}
 use Rattle.lxr_model.specs.Moments.{Moment, Trace}
 use Rattle.lxr_invariant.proofs.EntryLemmas.{changed_cases, changed_other}
@@ -13,12 +11,12 @@ use Rattle.lxr_core_access.specs.declared.Access.{Access}
 use Rattle.lxr_core_access.specs.Accesses.{done_to}
 use Rattle.lxr_core_access.specs.Tracers.{Tracing}
 use Rattle.lxr_core_invariant.specs.ThreadStates.{ThreadState}
-use Rattle.lxr_core_invariant.specs.EpochStates.{Beginning, EpochState, limits_of, moment_of, opening_tables}
+use Rattle.lxr_core_invariant.specs.EpochStates.{Beginning, EpochState, limits_of, moment_of}
 use Rattle.lxr_core_invariant.specs.Events.{Event}
 use Rattle.lxr_core_invariant.specs.Events as event
 use Rattle.lxr_core_invariant.specs.Happening.{happen, with_cursor, with_logged}
 use Rattle.lxr_core_invariant.specs.Decremented.{MayTrace, decremented, traced}
-use Rattle.lxr_core_invariant.specs.Remembered.{AreIdle, AreRemembered, AreRememberedIn, AreRememberedWhile, IsRemembering}
+use Rattle.lxr_core_invariant.specs.Remembered.{AreIdle, AreRemembered, AreRememberedIn, AreRememberedWhile}
 use Rattle.lxr_core_invariant.specs.Epoch.{IsEpoch}
 use Rattle.lxr_core_invariant.specs.Laws.{DecrementersKeepRemembered, RememberedIsKept, TracersKeepRemembered}
 use Rattle.lxr_core_inv_counts.proofs.KeepingLemmas.{decrementers_are_sound}
@@ -124,18 +122,11 @@ module _ (b : Beginning) (s : EpochState) (i : ℕ) (access : Access) (after : T
   abbrev at : Name → ℕ
   at = b.abstract_state.at
 
-  -- a tracer comes to remember a reference only where some block was Chosen as the epoch opened, and so in a heap whose places entries have room for
-  small_where_remembering : (j : ℕ) (d : Tracing) → slice_get s.tracers j ≡ Some d → IsRemembering d → (limits_of b).blocks ≤ MOST_BLOCKS_REMEMBERED
-  small_where_remembering j d shows by =
-      let few = is.begins.between.safepoint.holds.blocks.few in
-      let some : chosen_count (opening_tables b) (limits_of b).blocks ≢ 0 = λ none. (is.remembered.idle none).none j d shows by in
-      chosen_in_small (limits_of b).blocks (omega (arith, few, some))
-
   step_on : (trace : Trace) → m.trace ≡ Some trace → IsRememberedFor b s trace → IsRememberedFor b (traced s i access after) trace
   step_on trace runs remembered =
       let runs_now : (moment_of b s).trace ≡ Some trace = (pause b s is).trace ∙ runs in
       let moves = tracer_moves (limits_of b) s.tables m at (ground_of b s is) trace (λ snapshot names. marks_snapshot b s is trace snapshot runs_now names)
-      may.before may.steps.about after (is.scanned.knows i may.before may.shows) (remembered.knows i may.before may.shows) (small_where_remembering i may.before may.shows) may.steps.attempts may.steps.goes in
+      may.before may.steps.about after (is.scanned.knows i may.before may.shows) (remembered.knows i may.before may.shows) may.steps.attempts may.steps.goes in
       moved (limits_of b) s.tables (done_to s.tables access) s.tracers m at trace i may.before after remembered may.shows
       (subst (λ (o : Option Access). Moves (limits_of b) s.tables (after_access s.tables o) m at trace may.before after) may.steps.access_is moves)
 

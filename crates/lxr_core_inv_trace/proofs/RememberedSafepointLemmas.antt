@@ -140,7 +140,7 @@ module _ (b : Beginning) (s : EpochState) (is : IsEpoch b s) (rest : AllRest s) 
     entry.number,
     entry.drawn,
     entry.within,
-    entry.word ∙ ap (λ p. word_of_entry (s.tables.reuse (field_word p i / WORDS_IN_LINE)) (record { 0 = p }) i) (sym (place n member)),
+    entry.word ∙ ap (λ p. word_of_entry (limits_of b).blocks (s.tables.reuse (field_word p i / WORDS_IN_LINE)) (record { 0 = p }) i) (sym (place n member)),
   )
 
   -- what is still to be scanned was so, at the places of the last pause

@@ -8,11 +8,10 @@ use Rattle.lxr_layout.specs.declared.limits.Limits.{Limits}
 use Rattle.lxr_layout.specs.declared.Header.TheVariants as header
 use Rattle.lxr_layout.specs.declared.Name.{Name}
 use Rattle.lxr_layout.specs.declared.Shape.{Shape}
-use Rattle.lxr_layout.specs.declared.TheConstants.{GRANULES_IN_BLOCK, MOST_BLOCKS_REMEMBERED, MOST_GRANULES_REMEMBERED, REMEMBERED_CURSOR, WORDS_IN_LINE}
+use Rattle.lxr_layout.specs.declared.TheConstants.{GRANULES_IN_BLOCK, REMEMBERED_CURSOR, WORDS_IN_LINE}
 use Rattle.lxr_layout.specs.Objects.{header_of}
 use Rattle.lxr_layout.specs.Places.{field_word, first_word}
 use Rattle.lxr_layout.specs.Runs.{word_of_entry}
-use Rattle.lxr_core_inv_trace.proofs.RememberedIdleLemmas.{try_forgets}
 use Rattle.lxr_graph.specs.Names.{IsSetOf, has}
 use Rattle.lxr_graph.specs.State.{object_at, refs_of}
 use Rattle.lxr_graph.proofs.NameSets.{not_both}
@@ -31,7 +30,7 @@ use Rattle.lxr_core_access.specs.Tracers.{Attempts, Tracing, TracerGoes, IsTry, 
 use Rattle.lxr_core_access.specs.Tracers as goes
 use Rattle.lxr_core_invariant.specs.Counted.{references_at}
 use Rattle.lxr_core_invariant.specs.Traced.{IsScannedAt, KnowsObjects}
-use Rattle.lxr_core_invariant.specs.Remembered.{HasLoaded, IsRemembering, IsSomeEntry, KnowsCounter, KnowsFields, KnowsNumber, StillHolds, entered_by, remembers_from, undrawn_by}
+use Rattle.lxr_core_invariant.specs.Remembered.{HasLoaded, IsSomeEntry, KnowsCounter, KnowsFields, KnowsNumber, StillHolds, entered_by, remembers_from, undrawn_by}
 use Rattle.lxr_core_invariant.proofs.ActingLemmas.{same_pair}
 use Rattle.lxr_core_inv_counts.proofs.StepLemmas.{after_access}
 use Rattle.lxr_core_inv_trace.proofs.RememberedGroundLemmas.{IsGround}
@@ -47,9 +46,9 @@ chosen_number k e = grind (arith, e)
 place_by_granule : (p q : ℕ) → 1 ≤ p → 1 ≤ q → granule_of p ≡ granule_of q → p ≡ q
 place_by_granule p q some_p some_q e = omega arith
 
--- an entry has room for a place of a heap in which blocks are Chosen
-place_fits : (place refs blocks : ℕ) → 2 * (place - 1) + 1 + refs ≤ 4096 * blocks → blocks ≤ MOST_BLOCKS_REMEMBERED → place ≤ MOST_GRANULES_REMEMBERED
-place_fits place refs blocks within few = omega arith
+-- an object of the heap stands at one of its places
+place_fits : (place refs blocks : ℕ) → 2 * (place - 1) + 1 + refs ≤ 4096 * blocks → place ≤ GRANULES_IN_BLOCK * blocks
+place_fits place refs blocks within = omega arith
 
 -- what a tracer comes to has nothing to enter yet, knows what it knows, and is ahead of no more than so many references
 record IsQuiet (l : Limits) (u : Tables) (m : Moment) (at : Name → ℕ) (e : Tracing) (most : ℕ) : Type 0 where
@@ -294,8 +293,8 @@ module _ (l : Limits) (t : Tables) (m : Moment) (at : Name → ℕ) (ground : Is
       }
 
   -- its entry is that of a field of the heap
-  entry_there : (place refs index counter : ℕ) → l.blocks ≤ MOST_BLOCKS_REMEMBERED → IsScannedAt t m at place refs index → KnowsCounter t place index counter → IsSomeEntry l (word_of_entry counter (record { 0 = place }) index)
-  entry_there place refs index counter small knows counter_is =
+  entry_there : (place refs index counter : ℕ) → IsScannedAt t m at place refs index → KnowsCounter t place index counter → IsSomeEntry l (word_of_entry l.blocks counter (record { 0 = place }) index)
+  entry_there place refs index counter knows counter_is =
       let n : Name = knows.stands.name in
       let here = knows.stands.stands in
       let some = subst (λ p. 1 ≤ p) (sym here) (ground.placed n knows.stands.member) in
@@ -308,10 +307,10 @@ module _ (l : Limits) (t : Tables) (m : Moment) (at : Name → ℕ) (ground : Is
         index,
         record {
           is = refl;
-          small = small;
           entry = record {
+            heap = ground.limits.blocks.1;
             counter = subst (λ c. c < 2 ^ 32) (sym counter_is) (ground.reuse (field_word place index / WORDS_IN_LINE));
-            place = (some, place_fits place (length (refs_of (object_at m.last.graph n))) l.blocks (omega (arith, here, lies)) small);
+            place = (some, place_fits place (length (refs_of (object_at m.last.graph n))) l.blocks (omega (arith, here, lies)));
             index = omega (arith, many, few, within);
           };
           in_heap = omega (arith, here, lies, many, within);
@@ -319,10 +318,10 @@ module _ (l : Limits) (t : Tables) (m : Moment) (at : Name → ℕ) (ground : Is
       )
 
   -- the entry is written
-  entry_moves : (place refs index counter number : ℕ) → l.blocks ≤ MOST_BLOCKS_REMEMBERED → IsScannedAt t m at place refs index → KnowsNumber l t place index counter number
-      → Moves l t (done_to t (access.PutRemembered number (word_of_entry counter (record { 0 = place }) index))) m at trace (Enters place refs index counter number) (scanned_next place refs (index + 1))
-  entry_moves place refs index counter number small knows known =
-      let word : ℕ = word_of_entry counter (record { 0 = place }) index in
+  entry_moves : (place refs index counter number : ℕ) → IsScannedAt t m at place refs index → KnowsNumber l t place index counter number
+      → Moves l t (done_to t (access.PutRemembered number (word_of_entry l.blocks counter (record { 0 = place }) index))) m at trace (Enters place refs index counter number) (scanned_next place refs (index + 1))
+  entry_moves place refs index counter number knows known =
+      let word : ℕ = word_of_entry l.blocks counter (record { 0 = place }) index in
       let u : Tables = done_to t (access.PutRemembered number word) in
       let quiet = next_quiet l u m at place refs (index + 1) in
       record {
@@ -332,7 +331,7 @@ module _ (l : Limits) (t : Tables) (m : Moment) (at : Name → ℕ) (ground : Is
           | inl q ↦ inl (ap Some (sym q.0))
           | inr q ↦ inr (λ by. (let same : number ≡ k = cc in q.0 (sym same)), q.1)
         ];
-        wrote = λ k by. let same : number ≡ k = cc in subst (IsSomeEntry l) (sym (changed_here t.remembered number word k (sym same))) (entry_there place refs index counter small knows known.counter_is);
+        wrote = λ k by. let same : number ≡ k = cc in subst (IsSomeEntry l) (sym (changed_here t.remembered number word k (sym same))) (entry_there place refs index counter knows known.counter_is);
         fresh = λ k by. absurd (let x : None ≡ Some k = sym quiet.entered ∙ by in cc);
         scanned = λ n h set. inl set;
         ahead = past u (Enters place refs index counter number) place refs index knows.refs_are refl (λ n v here holds chosen. inl (record {
@@ -340,8 +339,8 @@ module _ (l : Limits) (t : Tables) (m : Moment) (at : Name → ℕ) (ground : Is
           enters = refl;
           drawn = known.drawn;
           within = known.within;
-          word = changed_here t.remembered number word number refl ∙ ap (λ c. word_of_entry c (record { 0 = place }) index) known.counter_is
-              ∙ ap (λ p. word_of_entry (t.reuse (field_word p index / WORDS_IN_LINE)) (record { 0 = p }) index) here;
+          word = changed_here t.remembered number word number refl ∙ ap (λ c. word_of_entry l.blocks c (record { 0 = place }) index) known.counter_is
+              ∙ ap (λ p. word_of_entry l.blocks (t.reuse (field_word p index / WORDS_IN_LINE)) (record { 0 = p }) index) here;
         }));
         own = quiet.knows;
         bound = λ snapshot names.
@@ -353,34 +352,34 @@ module _ (l : Limits) (t : Tables) (m : Moment) (at : Name → ℕ) (ground : Is
   -- ---- each step
 
   -- by where it leads
-  step_moves : (remember : ℕ) (d e : Tracing) → remember ≡ l.remember → KnowsObjects l.blocks t m at d → KnowsFields l t m at d → (IsRemembering d → l.blocks ≤ MOST_BLOCKS_REMEMBERED) → TracerGoes l.blocks remember t d e → Moves l t (after_access t (tracer_access d)) m at trace d e
-  step_moves remember d e room knows fields small (goes.asks_gray place) = looks t d e 0 (looks_still t) refl (record { entered = refl; knows = tt; undrawn = omega arith }) (omega arith) (idle t d e refl)
-  step_moves remember d e room knows fields small (goes.is_white place next try) = looks t d e 0 (looks_still t) refl (try_quiet l t m at l.blocks e try) (omega arith) (idle t d e refl)
-  step_moves remember d e room knows fields small (goes.is_none place gray next clear try) = looks t d e 0 (looks_still t) refl (try_quiet l t m at l.blocks e try) (omega arith) (idle t d e refl)
-  step_moves remember d e room knows fields small (goes.is_object place set) = looks t d e 0 (looks_still t) refl (record { entered = refl; knows = tt; undrawn = omega arith }) (omega arith) (idle t d e refl)
-  step_moves remember d e room knows fields small (goes.marked_before place next set try) =
+  step_moves : (remember : ℕ) (d e : Tracing) → remember ≡ l.remember → KnowsObjects l.blocks t m at d → KnowsFields l t m at d → TracerGoes l.blocks remember t d e → Moves l t (after_access t (tracer_access l.blocks d)) m at trace d e
+  step_moves remember d e room knows fields (goes.asks_gray place) = looks t d e 0 (looks_still t) refl (record { entered = refl; knows = tt; undrawn = omega arith }) (omega arith) (idle t d e refl)
+  step_moves remember d e room knows fields (goes.is_white place next try) = looks t d e 0 (looks_still t) refl (try_quiet l t m at l.blocks e try) (omega arith) (idle t d e refl)
+  step_moves remember d e room knows fields (goes.is_none place gray next clear try) = looks t d e 0 (looks_still t) refl (try_quiet l t m at l.blocks e try) (omega arith) (idle t d e refl)
+  step_moves remember d e room knows fields (goes.is_object place set) = looks t d e 0 (looks_still t) refl (record { entered = refl; knows = tt; undrawn = omega arith }) (omega arith) (idle t d e refl)
+  step_moves remember d e room knows fields (goes.marked_before place next set try) =
       let u : Tables = done_to t (access.SetMark (granule_of place)) in
       looks u d e 0 (mark_looks t (granule_of place) set) refl (try_quiet l u m at l.blocks e try) (omega arith) (idle u d e refl)
-  step_moves remember d e room knows fields small (goes.marks place clear) = marks_moves place knows clear
-  step_moves remember d e room knows fields small (goes.reads_shape place n shape told) = shape_moves place n shape knows told
-  step_moves remember d e room knows fields small (goes.scans_nil place refs index nil) = nil_moves place refs index knows nil
-  step_moves remember d e room knows fields small (goes.scans place refs index some) = loads_moves place refs index
-  step_moves remember d e room knows fields small (goes.finds_young place refs index referent clear) = young_moves place refs index referent knows.0 fields clear
-  step_moves remember d e room knows fields small (goes.finds_object place refs index referent set) =
+  step_moves remember d e room knows fields (goes.marks place clear) = marks_moves place knows clear
+  step_moves remember d e room knows fields (goes.reads_shape place n shape told) = shape_moves place n shape knows told
+  step_moves remember d e room knows fields (goes.scans_nil place refs index nil) = nil_moves place refs index knows nil
+  step_moves remember d e room knows fields (goes.scans place refs index some) = loads_moves place refs index
+  step_moves remember d e room knows fields (goes.finds_young place refs index referent clear) = young_moves place refs index referent knows.0 fields clear
+  step_moves remember d e room knows fields (goes.finds_object place refs index referent set) =
       looks t d e (refs - index) (looks_still t) refl (record { entered = refl; knows = fields; undrawn = omega arith }) (omega arith) (stays t d e place index refl refl)
-  step_moves remember d e room knows fields small (goes.grays place refs index referent) =
+  step_moves remember d e room knows fields (goes.grays place refs index referent) =
       let u : Tables = done_to t (access.SetGray (granule_of referent)) in
       looks u d e (refs - index) (gray_looks t (granule_of referent)) refl (record { entered = refl; knows = λ n v here holds. fields n v here (record { member = holds.member; held = holds.held; unlogged = holds.unlogged }); undrawn = omega arith }) (omega arith)
       (stays u d e place index refl refl)
-  step_moves remember d e room knows fields small (goes.is_other place refs index referent other) = other_moves place refs index referent knows.0 fields other
-  step_moves remember d e room knows fields small (goes.is_chosen place refs index referent chosen) =
+  step_moves remember d e room knows fields (goes.is_other place refs index referent other) = other_moves place refs index referent knows.0 fields other
+  step_moves remember d e room knows fields (goes.is_chosen place refs index referent chosen) =
       looks t d e (refs - index) (looks_still t) refl (record { entered = refl; knows = tt; undrawn = omega arith }) (omega arith) (stays t d e place index refl refl)
-  step_moves remember d e room knows fields small (goes.reads_reuse place refs index) =
+  step_moves remember d e room knows fields (goes.reads_reuse place refs index) =
       looks t d e (refs - index) (looks_still t) refl (record { entered = refl; knows = refl; undrawn = omega arith }) (omega arith) (stays t d e place index refl refl)
-  step_moves remember d e room knows fields small (goes.is_full place refs index counter full) = full_moves place refs index counter knows (omega (arith, room, full))
-  step_moves remember d e room knows fields small (goes.has_room place refs index counter some) = room_moves place refs index counter knows fields (omega (arith, room, some))
-  step_moves remember d e room knows fields small (goes.enters place refs index counter number) = entry_moves place refs index counter number (small tt) knows fields
-  step_moves remember d e room knows fields small (goes.finds_nothing) = looks t d e 0 (looks_still t) refl (record { entered = refl; knows = tt; undrawn = omega arith }) (omega arith) (idle t d e refl)
+  step_moves remember d e room knows fields (goes.is_full place refs index counter full) = full_moves place refs index counter knows (omega (arith, room, full))
+  step_moves remember d e room knows fields (goes.has_room place refs index counter some) = room_moves place refs index counter knows fields (omega (arith, room, some))
+  step_moves remember d e room knows fields (goes.enters place refs index counter number) = entry_moves place refs index counter number knows fields
+  step_moves remember d e room knows fields (goes.finds_nothing) = looks t d e 0 (looks_still t) refl (record { entered = refl; knows = tt; undrawn = omega arith }) (omega arith) (idle t d e refl)
 
   -- ---- how a unit begins
 
@@ -409,10 +408,10 @@ module _ (l : Limits) (t : Tables) (m : Moment) (at : Name → ℕ) (ground : Is
     bound = moves.bound;
   }
 
-  pub tracer_moves : (before about e : Tracing) → KnowsObjects l.blocks t m at before → KnowsFields l t m at before → (IsRemembering before → l.blocks ≤ MOST_BLOCKS_REMEMBERED) → Attempts l.blocks before about → TracerGoes l.blocks l.remember t about e
-      → Moves l t (after_access t (tracer_access about)) m at trace before e
-  tracer_moves before about e knows fields small (begins d try) goes =
-      try_moves (after_access t (tracer_access about)) l.blocks about e try (step_moves l.remember about e refl (tried try) (untold try) (λ by. absurd (try_forgets l.blocks about try by)) goes)
+  pub tracer_moves : (before about e : Tracing) → KnowsObjects l.blocks t m at before → KnowsFields l t m at before → Attempts l.blocks before about → TracerGoes l.blocks l.remember t about e
+      → Moves l t (after_access t (tracer_access l.blocks about)) m at trace before e
+  tracer_moves before about e knows fields (begins d try) goes =
+      try_moves (after_access t (tracer_access l.blocks about)) l.blocks about e try (step_moves l.remember about e refl (tried try) (untold try) goes)
     where
       tried : {d : Tracing} → IsTry l.blocks d → KnowsObjects l.blocks t m at d
       tried (pocket place some within) = (some, within)
@@ -421,4 +420,4 @@ module _ (l : Limits) (t : Tables) (m : Moment) (at : Name → ℕ) (ground : Is
       untold : {d : Tracing} → IsTry l.blocks d → KnowsFields l t m at d
       untold (pocket place some within) = tt
       untold (nothing) = tt
-  tracer_moves before about e knows fields small (goes_on d) goes = step_moves l.remember about e refl knows fields small goes
+  tracer_moves before about e knows fields (goes_on d) goes = step_moves l.remember about e refl knows fields goes

@@ -87,7 +87,7 @@ module _ (l : Limits) (t u : Tables) (ts : List Tracing) (m : Moment) (at : Name
         drawn = omega (arith, below, cursor);
         within = entry.within;
         written = entry.written;
-        word = ap (λ f. f entry.number) same.remembered ∙ entry.word ∙ ap (λ f. word_of_entry (f (word_of_field at n i / WORDS_IN_LINE)) (record { 0 = at n }) i) (sym same.keeps.reuse);
+        word = ap (λ f. f entry.number) same.remembered ∙ entry.word ∙ ap (λ f. word_of_entry l.blocks (f (word_of_field at n i / WORDS_IN_LINE)) (record { 0 = at n }) i) (sym same.keeps.reuse);
       }
 
   -- all stays remembered
@@ -121,7 +121,7 @@ pub record Writes (l : Limits) (t u : Tables) (at : Name → ℕ) (d : Tracing) 
   pub enters : entered_by d ≡ Some number
   pub drawn : number < t.cursors REMEMBERED_CURSOR
   pub within : number < l.remember
-  pub word : u.remembered number ≡ word_of_entry (t.reuse (word_of_field at n i / WORDS_IN_LINE)) (record { 0 = at n }) i
+  pub word : u.remembered number ≡ word_of_entry l.blocks (t.reuse (word_of_field at n i / WORDS_IN_LINE)) (record { 0 = at n }) i
 
 -- where a tracer that was ahead of a reference goes: it has written its entry, or the set has overflowed, or it is still ahead of it
 abbrev pub GoesAhead : Limits → Tables → Tables → (Name → ℕ) → Tracing → Tracing → Name → ℕ → Type 0
@@ -174,7 +174,7 @@ module _ (l : Limits) (t u : Tables) (ts : List Tracing) (m : Moment) (at : Name
         written = λ being. entry.written (entered_now entry.number entry.drawn being);
         word = elim (moves.kept entry.number) [
           | inl enters ↦ absurd (entry.written (i, d, shows, enters))
-          | inr q ↦ q.1 ∙ entry.word ∙ ap (λ f. word_of_entry (f (word_of_field at n j / WORDS_IN_LINE)) (record { 0 = at n }) j) (sym moves.keeps.reuse)
+          | inr q ↦ q.1 ∙ entry.word ∙ ap (λ f. word_of_entry l.blocks (f (word_of_field at n j / WORDS_IN_LINE)) (record { 0 = at n }) j) (sym moves.keeps.reuse)
         ];
       }
 
@@ -191,7 +191,7 @@ module _ (l : Limits) (t u : Tables) (ts : List Tracing) (m : Moment) (at : Name
           | inl p ↦ let drawn = moves.fresh writes.number (ap entered_by (sym p.1) ∙ by) in absurd (omega (arith, below, drawn))
           | inr p ↦ absurd (p.0 (was.one_number k i f d writes.number p.1 shows by writes.enters))
         ];
-        word = writes.word ∙ ap (λ f. word_of_entry (f (word_of_field at n j / WORDS_IN_LINE)) (record { 0 = at n }) j) (sym moves.keeps.reuse);
+        word = writes.word ∙ ap (λ f. word_of_entry l.blocks (f (word_of_field at n j / WORDS_IN_LINE)) (record { 0 = at n }) j) (sym moves.keeps.reuse);
       }
 
   abbrev IsRememberedNow : Name → ℕ → Type 0

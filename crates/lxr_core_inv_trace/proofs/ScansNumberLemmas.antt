@@ -3,7 +3,8 @@
 use Rattle.std.proofs.Common.{◌≡◌, ℕ, ◌+◌, ◌*◌, ◌^◌, ◌<◌, ◌≤◌, arith}
 use Rattle.std.specs.Prelude.{⊤, Option, Some, None, slice_get}
 use Rattle.lxr_layout.specs.declared.limits.Limits.{Limits}
-use Rattle.lxr_layout.specs.declared.TheConstants.{MOST_BLOCKS, MOST_WORDS, REMEMBERED_CURSOR}
+use Rattle.lxr_layout.specs.declared.TheConstants.{MOST_WORDS, REMEMBERED_CURSOR}
+use Rattle.lxr_layout.specs.Spaces.{AreLimits}
 use Rattle.lxr_image.specs.Tables.{Tables}
 use Rattle.lxr_model.specs.Moments.{Trace, rememberable}
 use Rattle.lxr_invariant.specs.Lines.{ChosenNeedTrace}
@@ -21,10 +22,9 @@ MayRemember l t (Enters place refs index counter number) = number < l.remember
 MayRemember l t _ = ⊤
 
 -- a cursor that is no further than what may be remembered stays a word
-cursor_far : (blocks cursor unscanned undrawn most pauses number : ℕ) → blocks ≤ MOST_BLOCKS → cursor + unscanned + undrawn ≤ most → most ≤ most_remembered blocks * (number + 1) → pauses ≡ number → pauses < 2 ^ 32
-    → cursor + 1 < 2 ^ 64
-cursor_far blocks cursor unscanned undrawn most pauses number small bound few same short =
-    let far = parts_larger (most_remembered blocks) (2 * MOST_WORDS) most number few (most_any_heap blocks small) in
+cursor_far : (l : Limits) (cursor unscanned undrawn most pauses number : ℕ) → AreLimits l → cursor + unscanned + undrawn ≤ most → most ≤ most_remembered l * (number + 1) → pauses ≡ number → pauses < 2 ^ 32 → cursor + 1 < 2 ^ 64
+cursor_far l cursor unscanned undrawn most pauses number are bound few same short =
+    let far = parts_larger (most_remembered l) (2 * MOST_WORDS) most number few (most_any_heap l are) in
     omega (arith, bound, far, same, short)
 
 module _ (b : Beginning) (s : EpochState) (is : IsEpoch b s) where
@@ -32,8 +32,8 @@ module _ (b : Beginning) (s : EpochState) (is : IsEpoch b s) where
   number_while : (trace : Trace) → IsTracedBy (limits_of b) (opening_tables b) b.space.logged.items b.abstract_state (Some trace) → AreRememberedWhile b s (Some trace)
       → s.tables.cursors REMEMBERED_CURSOR + 1 < 2 ^ 64
   number_while trace began remembered =
-      cursor_far (limits_of b).blocks (s.tables.cursors REMEMBERED_CURSOR) (unscanned_slots s.tables b.abstract_state.moment b.abstract_state.at began.snapshot) (undrawn b.abstract_state.moment b.abstract_state.at s.tracers)
-      (rememberable trace began.snapshot) b.space.pauses b.abstract_state.moment.number is.begins.between.safepoint.holds.space.limits.blocks.1 (remembered.bound began.snapshot began.reachable) began.few is.begins.between.safepoint.numbers.pauses is.remembered.few_pauses
+      cursor_far (limits_of b) (s.tables.cursors REMEMBERED_CURSOR) (unscanned_slots s.tables b.abstract_state.moment b.abstract_state.at began.snapshot) (undrawn b.abstract_state.moment b.abstract_state.at s.tracers)
+      (rememberable trace began.snapshot) b.space.pauses b.abstract_state.moment.number is.begins.between.safepoint.holds.space.limits (remembered.bound began.snapshot began.reachable) began.few is.begins.between.safepoint.numbers.pauses is.remembered.few_pauses
 
   -- where a tracer is about to draw, a trace runs
   far_by : (o : Option Trace) → ChosenNeedTrace (opening_tables b) (limits_of b).blocks o → IsTracedBy (limits_of b) (opening_tables b) b.space.logged.items b.abstract_state o → AreRememberedWhile b s o

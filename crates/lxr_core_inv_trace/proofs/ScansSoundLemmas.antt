@@ -127,7 +127,7 @@ module _ (l : Limits) (t : Tables) (ts : List Tracing) (m : Moment) (at : Name �
   block_there place stands = let x = ground.object place stands in block_within l.blocks place x.shape x.placed x.in_heap
 
   -- the access of each step may be done
-  pub step_sound : (i : ℕ) (d : Tracing) → slice_get ts i ≡ Some d → MayRemember l t d → IsSoundWhere l t (tracer_access d)
+  pub step_sound : (i : ℕ) (d : Tracing) → slice_get ts i ≡ Some d → MayRemember l t d → IsSoundWhere l t (tracer_access l.blocks d)
   step_sound i Rests shows remembers = tt
   step_sound i (AsksGray place) shows remembers = let knows = was.knows i (AsksGray place) shows in look_sound l t _ (granule_within l.blocks place knows.0 knows.1)
   step_sound i (AsksObject place gray) shows remembers = let knows = was.knows i (AsksObject place gray) shows in look_sound l t _ (granule_within l.blocks place knows.0.0 knows.0.1)

@@ -140,7 +140,7 @@ module _ (l : Limits) (t : Tables) (ts : List Tracing) (m : Moment) (at : Name �
       elim (there.reads index (omega (arith, as_many, within))) [ inl nil ↦ absurd (some nil) | inr low ↦ low ]
 
   -- each step keeps what tracers know
-  pub step_scanned : (remember : ℕ) (d e : Tracing) → slice_get ts i ≡ Some d → TracerGoes l.blocks remember t d e → AreScanned l.blocks (after_access t (tracer_access d)) (slice_set ts i e) m at
+  pub step_scanned : (remember : ℕ) (d e : Tracing) → slice_get ts i ≡ Some d → TracerGoes l.blocks remember t d e → AreScanned l.blocks (after_access t (tracer_access l.blocks d)) (slice_set ts i e) m at
   step_scanned remember d e shows (goes.asks_gray place) = look d e shows (λ p k. absurd (cc)) (was.knows i d shows, λ k. k)
   step_scanned remember d e shows (goes.is_white place next try) = tries d e shows try
   step_scanned remember d e shows (goes.is_none place gray next clear try) = tries d e shows try
@@ -159,7 +159,7 @@ module _ (l : Limits) (t : Tables) (ts : List Tracing) (m : Moment) (at : Name �
   step_scanned remember d e shows (goes.is_full place refs index counter full) = scans_still l.blocks t _ (slice_set ts i e) m at (draw_keeps t) (passes d place refs index shows refl (was.knows i d shows))
   step_scanned remember d e shows (goes.has_room place refs index counter room) = scans_still l.blocks t _ (slice_set ts i e) m at (draw_keeps t) (look d e shows (λ p k. k) (was.knows i d shows))
   step_scanned remember d e shows (goes.enters place refs index counter number) =
-      scans_still l.blocks t _ (slice_set ts i e) m at (entry_keeps t number (word_of_entry counter (record { 0 = place }) index)) (passes d place refs index shows refl (was.knows i d shows))
+      scans_still l.blocks t _ (slice_set ts i e) m at (entry_keeps t number (word_of_entry l.blocks counter (record { 0 = place }) index)) (passes d place refs index shows refl (was.knows i d shows))
   step_scanned remember d e shows (goes.finds_nothing) = look d e shows (λ p k. absurd (cc)) tt
 
 -- ---- how a unit begins

@@ -138,7 +138,7 @@ module _ (blocks remember : ℕ) (t : Tables) (was : Moment) (stood : Name → �
       inl (index, next_scans place refs index i (omega (arith, number, low)) (omega (arith, many, within)) ∙ ap (λ p. Some (p, index)) here, omega (arith, number, low))
 
   -- what it marks it scans from the first reference on
-  marks_keep : (place : ℕ) → KnowsObjects blocks t was stood (Marks place) → TracerKeeps t (after_access t (tracer_access (Marks place))) m at (Marks place) (ReadsShape place)
+  marks_keep : (place : ℕ) → KnowsObjects blocks t was stood (Marks place) → TracerKeeps t (after_access t (tracer_access blocks (Marks place))) m at (Marks place) (ReadsShape place)
   marks_keep place knows = record {
     grays = λ k h. h;
     marks = λ k h. elim (changed_cases t.marks (granule_of place) true k) [ inl q ↦ q.1 | inr q ↦ q.1 ∙ h ];
@@ -153,7 +153,7 @@ module _ (blocks remember : ℕ) (t : Tables) (was : Moment) (stood : Name → �
   }
 
   -- a mark that was set is none that it sets
-  marked_keeps : (place : ℕ) (e : Tracing) → t.marks (granule_of place) ≡ true → TracerKeeps t (after_access t (tracer_access (Marks place))) m at (Marks place) e
+  marked_keeps : (place : ℕ) (e : Tracing) → t.marks (granule_of place) ≡ true → TracerKeeps t (after_access t (tracer_access blocks (Marks place))) m at (Marks place) e
   marked_keeps place e set = record {
     grays = λ k h. h;
     marks = λ k h. elim (changed_cases t.marks (granule_of place) true k) [ inl q ↦ q.1 | inr q ↦ q.1 ∙ h ];
@@ -211,7 +211,7 @@ module _ (blocks remember : ℕ) (t : Tables) (was : Moment) (stood : Name → �
       (next_scanned place refs (index + 1) knows.0.refs_are)
 
   -- what is in hand is made gray
-  grays_keep : (place refs index referent : ℕ) → TracerKeeps t (after_access t (tracer_access (GraysReferent place refs index referent))) m at (GraysReferent place refs index referent) (AsksBlock place refs index referent)
+  grays_keep : (place refs index referent : ℕ) → TracerKeeps t (after_access t (tracer_access blocks (GraysReferent place refs index referent))) m at (GraysReferent place refs index referent) (AsksBlock place refs index referent)
   grays_keep place refs index referent = record {
     grays = λ k h. elim (changed_cases t.grays (granule_of referent) true k) [ inl q ↦ q.1 | inr q ↦ q.1 ∙ h ];
     marks = λ k h. h;
@@ -223,7 +223,7 @@ module _ (blocks remember : ℕ) (t : Tables) (was : Moment) (stood : Name → �
   }
 
   -- each step, by where it leads
-  pub tracer_step : (d e : Tracing) → KnowsObjects blocks t was stood d → TracerGoes blocks remember t d e → TracerKeeps t (after_access t (tracer_access d)) m at d e
+  pub tracer_step : (d e : Tracing) → KnowsObjects blocks t was stood d → TracerGoes blocks remember t d e → TracerKeeps t (after_access t (tracer_access blocks d)) m at d e
   tracer_step d e knows (goes.asks_gray place) = idle d e refl refl
   tracer_step d e knows (goes.is_white place next try) = idle d e refl refl
   tracer_step d e knows (goes.is_none place gray next clear try) = idle d e refl refl
@@ -260,9 +260,9 @@ begun t u m at d e keeps = record {
 }
 
 pub tracer_steps : (blocks remember : ℕ) (t : Tables) (was : Moment) (stood : Name → ℕ) (m : Moment) (at : Name → ℕ) → HelpersFind t was stood m at
-    → (before about e : Tracing) → KnowsObjects blocks t was stood before → Attempts blocks before about → TracerGoes blocks remember t about e → TracerKeeps t (after_access t (tracer_access about)) m at before e
+    → (before about e : Tracing) → KnowsObjects blocks t was stood before → Attempts blocks before about → TracerGoes blocks remember t about e → TracerKeeps t (after_access t (tracer_access blocks about)) m at before e
 tracer_steps blocks remember t was stood m at find before about e knows (begins d try) goes =
-    begun t (after_access t (tracer_access about)) m at about e (tracer_step blocks remember t was stood m at find about e (tried try) goes)
+    begun t (after_access t (tracer_access blocks about)) m at about e (tracer_step blocks remember t was stood m at find about e (tried try) goes)
   where
     tried : {d : Tracing} → IsTry blocks d → KnowsObjects blocks t was stood d
     tried (pocket place some within) = (some, within)

@@ -4,7 +4,6 @@ use Rattle.lxr_layout.specs.Places.{field_word, place_in}
 use Rattle.lxr_layout.specs.declared.TheConstants.{FREE_BLOCK_COUNT, FREE_BLOCK_CURSOR, PAUSE_WORD, RUN_CURSOR}
 use Rattle.lxr_layout.specs.declared.Name.{Name}
 use Rattle.lxr_layout.specs.declared.LogEntry.{LogEntry}
-use Rattle.lxr_layout.specs.Spaces.{most_chosen}
 use Rattle.lxr_graph.specs.declared.Op.{Op}
 use Rattle.lxr_graph.specs.declared.Reply.{Reply}
 use Rattle.lxr_graph.specs.declared.Reply.TheVariants as reply
@@ -297,7 +296,7 @@ pub record CursorsDontFall : Type 0 where
 -- an object. So objects are at least as many as these blocks.
 abbrev pub AllBlocksAreTaken : Type 0
 AllBlocksAreTaken = (b : Beginning) (s : EpochState) → IsEpoch b s → FreeBlocksAreListed b.space → AreResting s → s.tables.cursors FREE_BLOCK_COUNT ≤ s.tables.cursors FREE_BLOCK_CURSOR
-    → (limits_of b).blocks - most_chosen (limits_of b).blocks ≤ length (moment_of b s).unreclaimed + length (moment_of b s).made
+    → (limits_of b).blocks - (limits_of b).evacuate ≤ length (moment_of b s).unreclaimed + length (moment_of b s).made
 
 -- all of it
 abbrev pub EpochIsKept : Type 0

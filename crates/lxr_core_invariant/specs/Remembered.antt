@@ -112,7 +112,7 @@ pub record HasEntry (l : Limits) (t : Tables) (ts : List Tracing) (at : Name →
   pub drawn : number < t.cursors REMEMBERED_CURSOR
   pub within : number < l.remember
   pub written : ¬ IsBeingEntered ts number
-  pub word : t.remembered number ≡ word_of_entry (t.reuse (word_of_field at n i / WORDS_IN_LINE)) (record { 0 = at n }) i
+  pub word : t.remembered number ≡ word_of_entry l.blocks (t.reuse (word_of_field at n i / WORDS_IN_LINE)) (record { 0 = at n }) i
 
 -- a word is the entry of some field of the heap
 abbrev pub IsSomeEntry : Limits → ℕ → Type 0

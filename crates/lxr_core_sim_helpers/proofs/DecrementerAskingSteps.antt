@@ -19,7 +19,7 @@ pub asks_count : (b : Beginning) (s : EpochState) (d : DecrementerState) (place 
 asks_count b s d place = record {
   access = access.Look (table_entry.Count (granule_of place));
   next = AsksStart place.0 (nat_eq (s.tables.counts (granule_of place)) 0);
-  acts = λ r. refl;
+  acts = λ r _. refl;
   access_is = refl;
   goes = goes.asks_count place.0;
   leads = λ old told. ap (λ (c : ℕ). AsksStart place.0 (nat_eq c 0)) told;
@@ -40,7 +40,7 @@ module _ (b : Beginning) (s : EpochState) (d : DecrementerState) (place : Place)
   asks_start uncounted = record {
     access = access.Look (table_entry.Start (granule_of place));
     next = started uncounted (s.tables.starts (granule_of place));
-    acts = λ r. refl;
+    acts = λ r _. refl;
     access_is = refl;
     goes = started_goes uncounted (s.tables.starts (granule_of place)) refl;
     leads = λ old told. ap (started uncounted) told;
@@ -59,7 +59,7 @@ module _ (b : Beginning) (s : EpochState) (d : DecrementerState) (place : Place)
   claims = record {
     access = access.SetDone (granule_of place);
     next = claimed (s.tables.dones (granule_of place));
-    acts = λ r. refl;
+    acts = λ r _. refl;
     access_is = refl;
     goes = claimed_goes (s.tables.dones (granule_of place)) refl;
     leads = λ old told. ap claimed told;

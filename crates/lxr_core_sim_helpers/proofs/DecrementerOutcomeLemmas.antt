@@ -29,7 +29,7 @@ Goes b s about after = DecrementerGoes (limits_of b).blocks s.tables about after
 
 -- In a phase the machine does an access, and goes where the tables lead, whatever else its word tells.
 abbrev pub Leads : Beginning → EpochState → DecrementerState → DecrementerPhase → Type 0
-Leads b s d p = lemma.Leads decrementer_work decrementing_in decrementer_access Goes b s d p
+Leads b s d p = lemma.Leads decrementer_work decrementing_in (λ b x. decrementer_access x) Goes b s d p
 
 -- once a reference or an entry is done with, it is about to do what comes next
 pub handled_shown : (d : DecrementerState) (h : machine.Handling) → decrementing_of (led d (handled h)) ≡ handled_next (handling_of h)

@@ -53,7 +53,7 @@ try_place b r place is low =
 
 -- so a decrementer looks on
 tries : (b : Beginning) (d : DecrementerState) → IsDecrementerOf (limits_of b) d → Try b (decrementing_of (looks_on d))
-tries b d is = lemma.tries decrementer_work decrementing_in decrementer_access Goes decrementer_lawful (λ (x : EpochState). x.decrementers) MayDecrement Tries may_happen may_be_done Try (λ b x. begins x) (λ b x. goes_on x) try_place (λ b. decrementing.list) b d is
+tries b d is = lemma.tries decrementer_work decrementing_in (λ b x. decrementer_access x) Goes decrementer_lawful (λ (x : EpochState). x.decrementers) MayDecrement Tries may_happen may_be_done Try (λ b x. begins x) (λ b x. goes_on x) try_place (λ b. decrementing.list) b d is
 
 -- a unit begins with this
 first_tried : (b : Beginning) (s : EpochState) (d : DecrementerState) (place : Option Place) → Leads b s (in_phase decrementer_work (spared decrementer_work d).0 (question place)) (question place)
@@ -86,5 +86,5 @@ leads b s words i d (phase.ReadsEntry number) shows busy = reads_entry b s (on d
 -- each step
 pub each_step : DecrementerStepsAreEvents
 each_step b s words i d shows some =
-    lemma.each_step decrementer_work decrementing_in decrementer_access Goes decrementer_lawful (λ (x : EpochState). x.decrementers) MayDecrement Tries may_happen may_be_done Try (λ b x. begins x) (λ b x. goes_on x) try_place (λ b. decrementing.list)
+    lemma.each_step decrementer_work decrementing_in (λ b x. decrementer_access x) Goes decrementer_lawful (λ (x : EpochState). x.decrementers) MayDecrement Tries may_happen may_be_done Try (λ b x. begins x) (λ b x. goes_on x) try_place (λ b. decrementing.list)
     first_tried leads b s words i d shows some

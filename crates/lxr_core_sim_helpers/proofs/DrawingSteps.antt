@@ -31,7 +31,7 @@ pub asks_cursor : (b : Beginning) (s : EpochState) (d : DecrementerState) → Le
 asks_cursor b s d = record {
   access = access.Look (table_entry.Cursor DECREMENT_CURSOR);
   next = AsksNumber (s.tables.cursors DECREMENT_CURSOR);
-  acts = λ r. refl;
+  acts = λ r _. refl;
   access_is = refl;
   goes = goes.asks_cursor;
   leads = λ old told. ap AsksNumber told;
@@ -60,7 +60,7 @@ asks_number b s d cursor is regions =
     record {
       access = access.Look (table_entry.Cursor DECREMENT_COUNT);
       next = compared_next count (nat_lt cursor count);
-      acts = λ r. refl;
+      acts = λ r _. refl;
       access_is = refl;
       goes = compared_goes (limits_of b).blocks s.tables cursor (nat_lt cursor count) refl;
       leads = λ old told. ap (λ (word : ℕ). decrementing_of (led d (compared cursor (listed_in d.regions word)))) told
@@ -89,7 +89,7 @@ draws b s d count =
     record {
       access = access.Draw DECREMENT_CURSOR;
       next = drawn_next cursor (nat_lt cursor count);
-      acts = λ r. refl;
+      acts = λ r _. refl;
       access_is = refl;
       goes = drawn_goes (limits_of b).blocks s.tables count (nat_lt cursor count) refl;
       leads = λ old told. ap (λ (number : ℕ). decrementing_of (led d (drawn count number))) told ∙ drawn_shown d cursor (nat_lt cursor count);
@@ -106,7 +106,7 @@ reads_entry b s d number is regions drawn =
     record {
       access = access.Look (table_entry.Decrement number);
       next = AsksLowered word Entry;
-      acts = λ r. refl;
+      acts = λ r _. refl;
       access_is = refl;
       goes = goes.reads_entry number;
       leads = λ old told. ap (λ (w : ℕ). decrementing_of (led d (entered (referent_in d.regions w)))) told ∙ ap (λ (r : Option Place). decrementing_of (led d (entered r))) there;

@@ -38,7 +38,7 @@ reads_header b s d place is regions done =
     record {
       access = access.Look (table_entry.Heap (first_word place.0));
       next = AsksTracing place.0 head.shape.refs;
-      acts = λ r. refl;
+      acts = λ r _. refl;
       access_is = refl;
       goes = goes.reads_header place.0 head.name head.shape head.told;
       leads = λ old told. ap (λ (word : ℕ). AsksTracing place.0 (references_in d.regions place word)) told ∙ ap (AsksTracing place.0) head.refs;
@@ -49,7 +49,7 @@ pub asks_tracing : (b : Beginning) (s : EpochState) (d : DecrementerState) (plac
 asks_tracing b s d place refs = record {
   access = access.Look (table_entry.Cursor TRACING_WORD);
   next = handled_next (References place.0 refs 0 (nat_eq (s.tables.cursors TRACING_WORD) 1));
-  acts = λ r. refl;
+  acts = λ r _. refl;
   access_is = refl;
   goes = goes.asks_tracing place.0 refs;
   leads = λ old told. handled_shown d (handled.References place refs 0 (nat_eq old 1)) ∙ ap (λ (word : ℕ). handled_next (References place.0 refs 0 (nat_eq word 1))) told;
@@ -60,7 +60,7 @@ pub makes_gray : (b : Beginning) (s : EpochState) (d : DecrementerState) (place 
 makes_gray b s d place refs index referent = record {
   access = access.SetGray (granule_of referent.0);
   next = AsksLowered referent.0 (References place.0 refs (index + 1) true);
-  acts = λ r. refl;
+  acts = λ r _. refl;
   access_is = refl;
   goes = goes.makes_gray place.0 refs index referent.0;
   leads = λ old told. refl;
@@ -104,7 +104,7 @@ module _ (b : Beginning) (s : EpochState) (i : ℕ) (d : DecrementerState) (plac
   reads_nil nil = record {
     access = look;
     next = handled_next (References place.0 refs (index + 1) traced);
-    acts = λ r. refl;
+    acts = λ r _. refl;
     access_is = refl;
     goes = goes.reads_nil place.0 refs index traced nil;
     leads = λ old told. ap (λ (w : ℕ). decrementing_of (led d (referred place refs index traced (referent_in d.regions w)))) (told ∙ nil)
@@ -129,7 +129,7 @@ module _ (b : Beginning) (s : EpochState) (i : ℕ) (d : DecrementerState) (plac
       record {
         access = look;
         next = next;
-        acts = λ r. refl;
+        acts = λ r _. refl;
         access_is = refl;
         goes = leads;
         leads = λ old told. ap (λ (w : ℕ). decrementing_of (led d (referred place refs index traced (referent_in d.regions w)))) told

@@ -30,20 +30,20 @@ same_action a c e = cc
 module _ {P E X : Type 0} (w : Work P E) (shown_in : P → X) where
   -- ---- steps
 
-  module _ (access_in : X → Option Access) (Goes : Beginning → EpochState → X → X → Type 0) where
-    -- In a phase the machine does an access, and goes where the tables lead, whatever else its word tells.
+  module _ (access_in : Beginning → X → Option Access) (Goes : Beginning → EpochState → X → X → Type 0) where
+    -- In a phase the machine does an access, by the regions of the space, and goes where the tables lead, whatever else its word tells.
     pub record Leads (b : Beginning) (s : EpochState) (h : HelperState P E) (p : P) : Type 0 where
       pub access : Access
       pub next : X
-      pub acts : (r : Regions) → w.action r p ≡ Some (action_of r access)
-      pub access_is : access_in (shown_in p) ≡ Some access
+      pub acts : (r : Regions) → r ≡ regions_of (limits_of b) → w.action r p ≡ Some (action_of r access)
+      pub access_is : access_in b (shown_in p) ≡ Some access
       pub goes : Goes b s (shown_in p) next
       pub leads : (old : ℕ) → Tells s.tables (table_entry_of access) old → shown_of w shown_in (after_in w h p old) ≡ next
 
     -- An access may happen where it is that of what the helper attempts, and may be done then.
     module _ (law : IsLawful w) (shown : EpochState → List X) (May : Beginning → EpochState → ℕ → Access → X → Type 0) (Attempts : Beginning → X → X → Type 0)
         (may_happen : (b : Beginning) (s : EpochState) (i : ℕ) (access : Access) (before about after : X) → slice_get (shown s) i ≡ Some before → Attempts b before about
-        → access_in about ≡ Some access → Goes b s about after → May b s i access after)
+        → access_in b about ≡ Some access → Goes b s about after → May b s i access after)
         (may_be_done : (b : Beginning) (s : EpochState) (i : ℕ) (access : Access) (after : X) → IsEpoch b s → May b s i access after → MayBeDone (limits_of b) s.tables access) where
       -- a step goes where its phase leads
       by_phase : (b : Beginning) (s : EpochState) (words : List ℕ) (i : ℕ) (h : HelperState P E) → ShowsHelper w shown_in shown May b s words i h → IsSome (action w h)
@@ -53,7 +53,7 @@ module _ {P E X : Type 0} (w : Work P E) (shown_in : P → X) where
           let m = helper_machine w in
           let act : Action = action_of h.regions to.access in
           let old : ℕ = slice_index words act.word in
-          let acts : action w h ≡ Some act = unfinished w h some ∙ to.acts h.regions in
+          let acts : action w h ≡ Some act = unfinished w h some ∙ to.acts h.regions shows.helper.regions in
           let may : May b s i to.access to.next = may_happen b s i to.access (shown_of w shown_in h) (shown_of w shown_in (begun w h)) to.next shows.shows attempts to.access_is to.goes in
           let done = access_done l h.regions words (regions_are l h.regions shows.helper.regions) shows.size to.access
           (subst (λ t. MayBeDone l t to.access) shows.tables (may_be_done b s i to.access to.next shows.epoch may)) in

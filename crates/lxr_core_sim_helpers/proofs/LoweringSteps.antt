@@ -47,7 +47,7 @@ module _ (b : Beginning) (s : EpochState) (d : DecrementerState) (referent : Pla
       record {
         access = access.Look (table_entry.Count (granule_of referent.0));
         next = asked_next referent handling (nat_eq count 0 || nat_eq count STUCK);
-        acts = λ r. refl;
+        acts = λ r _. refl;
         access_is = refl;
         goes = asked_goes (limits_of b).blocks s.tables referent handling (nat_eq count 0) (nat_eq count STUCK) refl refl;
         leads = λ old told. ap (λ (c : ℕ). decrementing_of (led d (counted referent handling c))) told ∙ asked_shown d referent handling (nat_eq count 0 || nat_eq count STUCK);
@@ -58,7 +58,7 @@ module _ (b : Beginning) (s : EpochState) (d : DecrementerState) (referent : Pla
   lowers = record {
     access = access.LowerCount (granule_of referent.0);
     next = handled_next (handling_of handling);
-    acts = λ r. refl;
+    acts = λ r _. refl;
     access_is = refl;
     goes = goes.lowers referent.0 (handling_of handling);
     leads = λ old told. handled_shown (keeping decrementer_work d (keeps_in (phase.Lowers referent handling) old)) handling;

@@ -1,7 +1,7 @@
 -- The steps that scan a marked object: its header tells how many references it has, and each of them is nil or a place of the heap. Where what
 -- one refers to is in a Chosen block, the reference is entered in the remembered set, while that has room.
 use Rattle.std.proofs.Common.{◌≡◌, ◌≢◌, ℕ, ◌+◌, ◌/◌, Bool, true, false, refl, sym, ap, ◌∙◌, inl, inr, arith}
-use Rattle.std.specs.Prelude.{Option, nat_eq, nat_lt, if◌then◌else◌}
+use Rattle.std.specs.Prelude.{Option, Some, nat_eq, nat_lt, if◌then◌else◌}
 use Rattle.lxr_layout.specs.declared.TheConstants.{GRANULES_IN_BLOCK, REMEMBERED_CURSOR, WORDS_IN_LINE}
 use Rattle.lxr_layout.specs.declared.Place.{Place}
 use Rattle.lxr_layout.specs.Spaces.{regions_of}
@@ -18,7 +18,9 @@ use Rattle.lxr_trace.specs.Steps.{drawn, referred, scan_from_first, scanned}
 use Rattle.lxr_invariant.proofs.BlockLemmas.{other_number}
 use Rattle.lxr_invariant.proofs.EntryLemmas.{equal_numbers}
 use Rattle.lxr_core_access.specs.declared.TableEntry.TheVariants as table_entry
+use Rattle.lxr_core_access.specs.declared.Access.{Access}
 use Rattle.lxr_core_access.specs.declared.Access.TheVariants as access
+use Rattle.lxr_core_access.specs.Accesses.{action_of}
 use Rattle.lxr_core_access.specs.Tracers.{Tracing, TracerGoes, AsksBlock, AsksReferent, DrawsNumber, Enters, GraysReferent, ReadsReuse, scanned_next}
 use Rattle.lxr_core_access.specs.Tracers as goes
 use Rattle.lxr_core_invariant.specs.EpochStates.{Beginning, EpochState, limits_of}
@@ -30,7 +32,7 @@ use Rattle.lxr_core_sim_helpers.specs.TracerShowing.{tracing_of}
 use Rattle.lxr_core_sim_helpers.proofs.HelperLemmas.{is_from, is_less, is_not_zero, is_zero}
 use Rattle.lxr_core_sim_helpers.proofs.HelperKnowingLemmas.{nil_told, place_told}
 use Rattle.lxr_core_sim_helpers.proofs.TracerOutcomeLemmas.{Leads, at_shown, led, scanned_shown}
-use Rattle.lxr_core_sim_helpers.proofs.TracerKnowingLemmas.{references_are, room_is}
+use Rattle.lxr_core_sim_helpers.proofs.TracerKnowingLemmas.{blocks_are, references_are, room_is}
 
 -- it looks at the header of an object that it has marked
 pub reads_shape : (b : Beginning) (s : EpochState) (d : TracerState) (place : Place) → IsEpoch b s → d.regions ≡ regions_of (limits_of b)
@@ -41,7 +43,7 @@ reads_shape b s d place is regions stands =
     record {
       access = access.Look (table_entry.Heap (first_word place.0));
       next = scanned_next place.0 there.shape.refs 0;
-      acts = λ r. refl;
+      acts = λ r _. refl;
       access_is = refl;
       goes = goes.reads_shape place.0 there.name there.shape there.told;
       leads = λ old told. at_shown d (scan_from_first place (references_in d.regions place old))
@@ -61,7 +63,7 @@ module _ (b : Beginning) (s : EpochState) (d : TracerState) (scan : Scan) where
   scans_nil nil = record {
     access = access.Look (table_entry.Heap (field_word scan.place.0 scan.index));
     next = scanned_next scan.place.0 scan.refs (scan.index + 1);
-    acts = λ r. refl;
+    acts = λ r _. refl;
     access_is = refl;
     goes = goes.scans_nil scan.place.0 scan.refs scan.index nil;
     leads = λ old told. ap (λ (w : ℕ). tracing_of (led d (referred scan (referent_in d.regions w)))) (told ∙ nil)
@@ -74,7 +76,7 @@ module _ (b : Beginning) (s : EpochState) (d : TracerState) (scan : Scan) where
   scans_some regions some low = record {
     access = access.Look (table_entry.Heap (field_word scan.place.0 scan.index));
     next = AsksReferent scan.place.0 scan.refs scan.index word;
-    acts = λ r. refl;
+    acts = λ r _. refl;
     access_is = refl;
     goes = goes.scans scan.place.0 scan.refs scan.index some;
     leads = λ old told. ap (λ (w : ℕ). tracing_of (led d (referred scan (referent_in d.regions w)))) told
@@ -117,7 +119,7 @@ module _ (b : Beginning) (s : EpochState) (d : TracerState) (scan : Scan) (refer
   asks_referent = record {
     access = access.Look (table_entry.Start (granule_of referent.0));
     next = found_next (s.tables.starts (granule_of referent.0));
-    acts = λ r. refl;
+    acts = λ r _. refl;
     access_is = refl;
     goes = found_goes (s.tables.starts (granule_of referent.0)) refl;
     leads = λ old told. found_shown (has_bit referent old) ∙ ap found_next told;
@@ -128,7 +130,7 @@ module _ (b : Beginning) (s : EpochState) (d : TracerState) (scan : Scan) (refer
   grays_referent = record {
     access = access.SetGray (granule_of referent.0);
     next = AsksBlock scan.place.0 scan.refs scan.index referent.0;
-    acts = λ r. refl;
+    acts = λ r _. refl;
     access_is = refl;
     goes = goes.grays scan.place.0 scan.refs scan.index referent.0;
     leads = λ old told. refl;
@@ -155,7 +157,7 @@ module _ (b : Beginning) (s : EpochState) (d : TracerState) (scan : Scan) (refer
   asks_block = record {
     access = access.Look (table_entry.State (granule_of referent.0 / GRANULES_IN_BLOCK));
     next = block_next (is_chosen state);
-    acts = λ r. refl;
+    acts = λ r _. refl;
     access_is = refl;
     goes = block_goes (is_chosen state) refl;
     leads = λ old told. block_shown (is_chosen old) ∙ ap (λ w. block_next (is_chosen w)) told;
@@ -169,7 +171,7 @@ module _ (b : Beginning) (s : EpochState) (d : TracerState) (scan : Scan) where
   reads_reuse = record {
     access = access.Look (table_entry.Reuse (field_word scan.place.0 scan.index / WORDS_IN_LINE));
     next = DrawsNumber scan.place.0 scan.refs scan.index (s.tables.reuse (field_word scan.place.0 scan.index / WORDS_IN_LINE));
-    acts = λ r. refl;
+    acts = λ r _. refl;
     access_is = refl;
     goes = goes.reads_reuse scan.place.0 scan.refs scan.index;
     leads = λ old told. ap (DrawsNumber scan.place.0 scan.refs scan.index) told;
@@ -198,7 +200,7 @@ module _ (b : Beginning) (s : EpochState) (d : TracerState) (scan : Scan) where
   draws_number counter regions = record {
     access = access.Draw REMEMBERED_CURSOR;
     next = drawn_next counter (nat_lt number (limits_of b).remember);
-    acts = λ r. refl;
+    acts = λ r _. refl;
     access_is = refl;
     goes = drawn_goes counter (nat_lt number (limits_of b).remember) refl;
     leads = λ old told. ap (λ w. tracing_of (led d (drawn d.regions scan counter w))) told
@@ -206,12 +208,16 @@ module _ (b : Beginning) (s : EpochState) (d : TracerState) (scan : Scan) where
         ∙ drawn_shown counter (nat_lt number (limits_of b).remember);
   }
 
+  -- the entry as it is written in a heap of so many blocks
+  abbrev entry : ℕ → ℕ → ℕ → Access
+  entry counter number blocks = access.PutRemembered number (word_of_entry blocks counter (record { 0 = scan.place.0 }) scan.index)
+
   -- it writes the entry
   pub enters : (counter number : ℕ) → Leads b s d (phase.Enters scan counter number)
   enters counter number = record {
-    access = access.PutRemembered number (word_of_entry counter (record { 0 = scan.place.0 }) scan.index);
+    access = entry counter number (limits_of b).blocks;
     next = scanned_next scan.place.0 scan.refs (scan.index + 1);
-    acts = λ r. refl;
+    acts = λ r regions. ap (λ blocks. Some (action_of r (entry counter number blocks))) (blocks_are (limits_of b) r regions);
     access_is = refl;
     goes = goes.enters scan.place.0 scan.refs scan.index counter number;
     leads = λ old told. scanned_shown d scan;

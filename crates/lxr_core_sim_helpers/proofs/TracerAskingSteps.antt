@@ -20,7 +20,7 @@ pub asks_gray : (b : Beginning) (s : EpochState) (d : TracerState) (place : Plac
 asks_gray b s d place = record {
   access = access.Look (table_entry.Gray (granule_of place));
   next = AsksObject place.0 (s.tables.grays (granule_of place));
-  acts = λ r. refl;
+  acts = λ r _. refl;
   access_is = refl;
   goes = goes.asks_gray place.0;
   leads = λ old told. ap (AsksObject place.0) told;
@@ -28,7 +28,7 @@ asks_gray b s d place = record {
 
 -- no place of its pocket needs work: it looks at the tracing word, whatever that is
 pub finds_nothing : (b : Beginning) (s : EpochState) (d : TracerState) → Leads b s d phase.FindsNothing
-finds_nothing b s d = record { access = access.Look (table_entry.Cursor TRACING_WORD); next = Rests; acts = λ r. refl; access_is = refl; goes = goes.finds_nothing; leads = λ old told. refl }
+finds_nothing b s d = record { access = access.Look (table_entry.Cursor TRACING_WORD); next = Rests; acts = λ r _. refl; access_is = refl; goes = goes.finds_nothing; leads = λ old told. refl }
 
 module _ (b : Beginning) (s : EpochState) (d : TracerState) (place : Place) (try : IsTry (limits_of b).blocks (tracing_of (looks_on d))) where
   -- it has looked at the start bit, by whether the object was gray and what the bit was
@@ -45,7 +45,7 @@ module _ (b : Beginning) (s : EpochState) (d : TracerState) (place : Place) (try
   asks_object gray = record {
     access = access.Look (table_entry.Start (granule_of place));
     next = started gray (s.tables.starts (granule_of place));
-    acts = λ r. refl;
+    acts = λ r _. refl;
     access_is = refl;
     goes = started_goes gray (s.tables.starts (granule_of place)) refl;
     leads = λ old told. ap (started gray) told;
@@ -64,7 +64,7 @@ module _ (b : Beginning) (s : EpochState) (d : TracerState) (place : Place) (try
   marks = record {
     access = access.SetMark (granule_of place);
     next = marked (s.tables.marks (granule_of place));
-    acts = λ r. refl;
+    acts = λ r _. refl;
     access_is = refl;
     goes = marked_goes (s.tables.marks (granule_of place)) refl;
     leads = λ old told. ap marked told;

@@ -13,7 +13,7 @@ use Rattle.lxr_trace.specs.Steps.{question, tracer_work}
 use Rattle.lxr_trace.specs.Lawful.{tracer_lawful}
 use Rattle.lxr_core_access.specs.declared.Access.{Access}
 use Rattle.lxr_core_access.specs.Accesses.{MayBeDone}
-use Rattle.lxr_core_access.specs.Tracers.{Attempts, Tracing, IsTry, begins, goes_on, tracer_access}
+use Rattle.lxr_core_access.specs.Tracers.{Attempts, Tracing, IsTry, begins, goes_on}
 use Rattle.lxr_core_access.specs.Tracers as tracing
 use Rattle.lxr_core_invariant.specs.EpochStates.{Beginning, EpochState, limits_of}
 use Rattle.lxr_core_invariant.specs.Decremented.{MayTrace}
@@ -22,7 +22,7 @@ use Rattle.lxr_core_inv_trace.proofs.ScansKeepingLemmas.{tracers_are_sound}
 use Rattle.lxr_core_sim_helpers.specs.TracerShowing.{IsTracerOf, tracing_in, tracing_of}
 use Rattle.lxr_core_sim_helpers.specs.TracerStepping.{TracerStepsAreEvents, ShowsTracer}
 use Rattle.lxr_core_sim_helpers.proofs.HelperLemmas as lemma
-use Rattle.lxr_core_sim_helpers.proofs.TracerOutcomeLemmas.{Goes, Leads, looks_on}
+use Rattle.lxr_core_sim_helpers.proofs.TracerOutcomeLemmas.{Goes, Leads, access_in, looks_on}
 use Rattle.lxr_core_sim_helpers.proofs.TracerAskingSteps.{asks_gray, asks_object, finds_nothing, marks}
 use Rattle.lxr_core_sim_helpers.proofs.ScanningSteps.{asks_block, asks_referent, draws_number, enters, grays_referent, reads_reuse, reads_shape, scans}
 
@@ -33,7 +33,7 @@ abbrev Tries : Beginning → Tracing → Tracing → Type 0
 Tries b before about = Attempts (limits_of b).blocks before about
 
 may_happen : (b : Beginning) (s : EpochState) (i : ℕ) (access : Access) (before about after : Tracing) → slice_get s.tracers i ≡ Some before → Tries b before about
-    → tracer_access about ≡ Some access → Goes b s about after → MayTrace b s i access after
+    → access_in b about ≡ Some access → Goes b s about after → MayTrace b s i access after
 may_happen b s i access before about after shows attempts is goes = record { before = before; shows = shows; steps = record { about = about; attempts = attempts; access_is = is; goes = goes } }
 
 may_be_done : (b : Beginning) (s : EpochState) (i : ℕ) (access : Access) (after : Tracing) → IsEpoch b s → MayTrace b s i access after → MayBeDone (limits_of b) s.tables access
@@ -51,7 +51,7 @@ try_place b r place is low =
 
 -- so a tracer looks on
 tries : (b : Beginning) (d : TracerState) → IsTracerOf (limits_of b) d → Try b (tracing_of (looks_on d))
-tries b d is = lemma.tries tracer_work tracing_in tracer_access Goes tracer_lawful (λ (x : EpochState). x.tracers) MayTrace Tries may_happen may_be_done Try (λ b x. begins x) (λ b x. goes_on x) try_place (λ b. tracing.nothing) b d is
+tries b d is = lemma.tries tracer_work tracing_in access_in Goes tracer_lawful (λ (x : EpochState). x.tracers) MayTrace Tries may_happen may_be_done Try (λ b x. begins x) (λ b x. goes_on x) try_place (λ b. tracing.nothing) b d is
 
 -- a unit begins with this
 first_tried : (b : Beginning) (s : EpochState) (d : TracerState) (place : Option Place) → Leads b s (in_phase tracer_work (spared tracer_work d).0 (question place)) (question place)
@@ -83,5 +83,5 @@ leads b s words i d phase.FindsNothing shows busy = finds_nothing b s (on d phas
 -- each step
 pub each_step : TracerStepsAreEvents
 each_step b s words i d shows some =
-    lemma.each_step tracer_work tracing_in tracer_access Goes tracer_lawful (λ (x : EpochState). x.tracers) MayTrace Tries may_happen may_be_done Try (λ b x. begins x) (λ b x. goes_on x) try_place (λ b. tracing.nothing)
+    lemma.each_step tracer_work tracing_in access_in Goes tracer_lawful (λ (x : EpochState). x.tracers) MayTrace Tries may_happen may_be_done Try (λ b x. begins x) (λ b x. goes_on x) try_place (λ b. tracing.nothing)
     first_tried leads b s words i d shows some

@@ -119,7 +119,7 @@ module _ (s : Space) (g : AbstractState) (st : State) (ws : List Field) (words :
   unused_then : FreeAreUnused tables g.at m.unreclaimed
   unused_then = let u = is.safepoint.holds.unused in record { objects = u.objects; outs = u.outs }
 
-  blocks_then : HasBlocks tables s.limits.blocks m.trace
+  blocks_then : HasBlocks tables s.limits m.trace
   blocks_then = let b = is.safepoint.holds.blocks in record { world = b.world; others = b.others; few = b.few; chosen = b.chosen; tracing = b.tracing }
 
   rest_then : KeepsRest after then g.at
@@ -147,7 +147,7 @@ module _ (s : Space) (g : AbstractState) (st : State) (ws : List Field) (words :
         lines = subst (λ z. LinesAreOut z st.graph g.at m.made) (sym same) lines_then;
         unchosen = subst (λ z. AvoidChosen z g.at m.made) (sym same) d.unchosen;
         unused = subst (λ z. FreeAreUnused z g.at m.unreclaimed) (sym same) unused_then;
-        blocks = subst (λ z. HasBlocks z s.limits.blocks m.trace) (sym same) blocks_then;
+        blocks = subst (λ z. HasBlocks z s.limits m.trace) (sym same) blocks_then;
         rest = rest_then;
         no_work = d.no_work;
       }

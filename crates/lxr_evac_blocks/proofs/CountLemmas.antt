@@ -1,5 +1,5 @@
 -- The bits of a mask of lines are as many as its lines.
-use Rattle.std.proofs.Common.{◌≡◌, ℕ, zero, suc, ◌+◌, ◌-◌, ◌*◌, ◌%◌, ◌^◌, ◌<◌, ◌≤◌, refl, sym, ap, ◌∙◌, inl, inr, arith, Bool, true, false}
+use Rattle.std.proofs.Common.{◌≡◌, ℕ, zero, suc, ◌+◌, ◌*◌, ◌%◌, ◌^◌, ◌<◌, ◌≤◌, refl, sym, ap, ◌∙◌, inl, inr, arith, Bool, true, false}
 use Rattle.std.specs.Prelude.{if◌then◌else◌, nat_le, ◌&&◌}
 use Rattle.std.specs.Int.{bit_at}
 use Rattle.std.specs.Int.Count.{ones}
@@ -9,11 +9,12 @@ use Rattle.std.proofs.lemmas.Nat.Bits.{bit_at-lt}
 use Rattle.lxr_layout.specs.declared.TheConstants.{LINES_IN_BLOCK}
 use Rattle.lxr_image.specs.Tables.{Tables}
 use Rattle.lxr_blocks.specs.declared.states.BlockState.TheVariants.{Partly}
-use Rattle.lxr_blocks.specs.Lines.{free_count, free_in}
+use Rattle.lxr_blocks.specs.Lines.{free_count}
 use Rattle.lxr_blocks.specs.Masks.{IsMask}
 use Rattle.lxr_blocks.specs.States.{state_in}
 use Rattle.lxr_blocks.proofs.MaskLemmas.{told_line, untold_line}
 use Rattle.lxr_evac_blocks.specs.Choosing.{is_partly, may_choose, taken_count}
+use Rattle.lxr_evac_blocks.proofs.TestLemmas.{one_at_most}
 
 -- one bit more
 ones_of_bit : (bit : ℕ) → bit < 2 → ones bit ≡ bit
@@ -49,18 +50,12 @@ ones_are_free mask free fits is =
     ap ones (let whole : mask ≡ mask % 2 ^ 128 = omega arith in whole)
     ∙ ones_below mask free LINES_IN_BLOCK (λ i within. bit_told mask i (free i) (told_line mask free i is within) (untold_line mask free i is within))
 
-one_at_most : (b : Bool) → (if b then 1 else 0) ≤ 1
-one_at_most true = omega arith
-one_at_most false = omega arith
-
 -- no more lines are free than there are
 pub count_within : (free : ℕ → Bool) (n : ℕ) → free_count free n ≤ n
 unfolding free_count
 count_within free zero = omega arith
 count_within free (suc n) = let before = count_within free n in let here = one_at_most (free n) in omega arith
 
--- whether a Partly block may be chosen is told by the bits of its mask
-pub told_by_mask : (t : Tables) (b mask : ℕ) → Partly ≡ state_in t b → mask < 2 ^ 128 → IsMask mask (free_in t b) → nat_le (LINES_IN_BLOCK - ones mask) 32 ≡ may_choose t b
-told_by_mask t b mask partly fits is =
-    ap (λ n. nat_le (LINES_IN_BLOCK - n) 32) (ones_are_free mask (free_in t b) fits is)
-    ∙ ap (λ s. is_partly s && nat_le (taken_count t b) 32) partly
+-- a Partly block may be chosen where few enough of its lines aren't free
+pub partly_may : (t : Tables) (b : ℕ) → Partly ≡ state_in t b → may_choose t b ≡ nat_le (taken_count t b) 32
+partly_may t b partly = ap (λ s. is_partly s && nat_le (taken_count t b) 32) (sym partly)

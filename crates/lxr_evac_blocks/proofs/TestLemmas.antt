@@ -1,6 +1,6 @@
 -- Tests of numbers, of two things at once, and of states.
 use Rattle.std.proofs.Common.{◌≡◌, ◌≢◌, ℕ, ◌<◌, ◌≤◌, ◌⊎◌, refl, inl, inr, arith, Bool, true, false}
-use Rattle.std.specs.Prelude.{◌&&◌, nat_lt}
+use Rattle.std.specs.Prelude.{◌&&◌, nat_lt, if◌then◌else◌}
 use Rattle.std.proofs.lemmas.Bool.Decides.{nat_tests}
 use Rattle.lxr_blocks.specs.declared.states.BlockState.{BlockState}
 use Rattle.lxr_blocks.specs.declared.states.BlockState.TheVariants.{Chosen, Free, Partly, Whole, World}
@@ -21,16 +21,18 @@ pub and_false : (x : Bool) → (x && false) ≡ false
 and_false true = refl
 and_false false = refl
 
-pub and_turned : (x y : Bool) → (x && y) ≡ (y && x)
-and_turned true true = refl
-and_turned true false = refl
-and_turned false true = refl
-and_turned false false = refl
+pub and_true : (x : Bool) → (x && true) ≡ x
+and_true true = refl
+and_true false = refl
 
 pub both : (x y : Bool) → (x && y) ≡ true → (x ≡ true) × (y ≡ true)
 both true true is = (refl, refl)
 both true false is = absurd (let e : false ≡ true = is in cc)
 both false y is = absurd (let e : false ≡ true = is in cc)
+
+pub one_at_most : (x : Bool) → (if x then 1 else 0) ≤ 1
+one_at_most true = omega arith
+one_at_most false = omega arith
 
 pub told : (x : Bool) → (x ≡ true) ⊎ (x ≡ false)
 told true = inl refl

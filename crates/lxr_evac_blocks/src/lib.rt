@@ -5,10 +5,13 @@
 //! in them, and references that lead into them are remembered. When the trace ends, they are released.
 #![tactic(auto)]
 
+mod choosable;
 mod choosing;
 mod laws;
+mod ranks;
 mod releasing;
 
+pub use choosable::taken_lines;
 pub use choosing::choose_blocks;
-pub use laws::{chosen_are_the_first, released_are_unchosen};
+pub use laws::{chosen_go_first, released_are_unchosen};
 pub use releasing::release_blocks;

@@ -330,7 +330,7 @@ module _ (s : Space) (m : Moment) (st : EvacuationStage) (is : IsEvacuating s m 
     lines = λ n o k h. absurd (none_made m no_made n h);
     unchosen = λ n h. absurd (none_made m no_made n h);
     unused = unused_then;
-    blocks = subst (λ l. HasBlocks t l.blocks m.trace) (sym limits_same) (blocks_kept f t st.found.limits.blocks m.trace is.lines.states (ap (λ c. c TRACING_WORD) (same_cursors s m st is)) was.blocks);
+    blocks = subst (λ l. HasBlocks t l m.trace) (sym limits_same) (blocks_kept f t st.found.limits m.trace is.lines.states (ap (λ c. c TRACING_WORD) (same_cursors s m st is)) was.blocks);
     rest = record {
       rest = is.lines.rest;
       apart = λ n o k h covers. is.lines.kept.rest k (record {

@@ -7,7 +7,7 @@ use Rattle.lxr_layout.specs.declared.limits.Limits.{Limits}
 use Rattle.lxr_layout.specs.declared.Name.{Name}
 use Rattle.lxr_layout.specs.declared.Place.{Place}
 use Rattle.lxr_layout.specs.declared.TheConstants.{GRANULES_IN_BLOCK, GRANULES_IN_LINE, REMEMBERED_CURSOR, WORDS_IN_LINE}
-use Rattle.lxr_layout.specs.Runs.{IsEntry, word_of_entry}
+use Rattle.lxr_layout.specs.Runs.{IsEntry, kept_counter, word_of_entry}
 use Rattle.lxr_graph.specs.Names.{has}
 use Rattle.lxr_graph.specs.State.{object_at, refs_of}
 use Rattle.lxr_image.specs.declared.space.Space.{Space}
@@ -94,7 +94,7 @@ module _ (s : Space) (m : Moment) (st : EvacuationStage) (is : IsEvacuating s m 
       (x.0, x.1, x.2, subst (λ z. IsEntryWord s.limits z x.0 x.1 x.2) (sym there) (subst (λ (l : Limits). IsEntryWord l ((tables_of st.found).remembered number) x.0 x.1 x.2) (sym limits) x.3))
 
   -- so its place is one of the heap
-  pub entry_place : (w c : ℕ) (p : Place) (i : ℕ) (parts : ℕ × Place × ℕ) → IsEntryWord s.limits w c p i → parts ≡ (c, p, i) → (1 ≤ parts.1.0) × (parts.1.0 - 1 < GRANULES_IN_BLOCK * s.limits.blocks)
+  pub entry_place : (w c : ℕ) (p : Place) (i : ℕ) (parts : ℕ × Place × ℕ) → IsEntryWord s.limits w c p i → parts ≡ (kept_counter s.limits.blocks c, p, i) → (1 ≤ parts.1.0) × (parts.1.0 - 1 < GRANULES_IN_BLOCK * s.limits.blocks)
   entry_place w c p i parts entry e =
       let first = entry.entry.place.0 in
       let heap = entry.in_heap in
@@ -112,7 +112,7 @@ module _ (s : Space) (m : Moment) (st : EvacuationStage) (is : IsEvacuating s m 
 
   -- so it is at an entry's place
   pub entry_holder : (number w : ℕ) (parts : ℕ × Place × ℕ) → number < (tables_of s).cursors REMEMBERED_CURSOR → number < s.limits.remember → w ≡ (tables_of s).remembered number
-      → ((counter : ℕ) (place : Place) (index : ℕ) → IsEntry counter place index → w ≡ word_of_entry counter place index → parts ≡ (counter, place, index)) → IsTrue ((tables_of s).starts (parts.1.0 - 1))
+      → ((counter : ℕ) (place : Place) (index : ℕ) → IsEntry s.limits.blocks counter place index → w ≡ word_of_entry s.limits.blocks counter place index → parts ≡ (kept_counter s.limits.blocks counter, place, index)) → IsTrue ((tables_of s).starts (parts.1.0 - 1))
       → (n : Name) × HoldsMember m st parts.1.0 (Some n)
   entry_holder number w parts low room read told start =
       let x = entry_word number w low room read in
@@ -128,7 +128,7 @@ module _ (s : Space) (m : Moment) (st : EvacuationStage) (is : IsEvacuating s m 
 pub record TellsField (s : Space) (m : Moment) (st : EvacuationStage) (number : ℕ) (n : Name) (i : ℕ) : Type 0 where
   pub member : IsTrue (has m.unreclaimed n)
   pub within : i < length (refs_of (object_at m.state.graph n))
-  pub entry : (tables_of s).remembered number ≡ word_of_entry ((tables_of s).reuse (word_of_field st.at n i / WORDS_IN_LINE)) (place_of st.at n) i
+  pub entry : (tables_of s).remembered number ≡ word_of_entry s.limits.blocks ((tables_of s).reuse (word_of_field st.at n i / WORDS_IN_LINE)) (place_of st.at n) i
 
 module _ (s : Space) (m : Moment) (st : EvacuationStage) (is : IsEvacuating s m st) (number : ℕ) (n : Name) (i : ℕ) (tells : TellsField s m st number n i) where
   pub field_entry : number < (tables_of s).cursors REMEMBERED_CURSOR → number < s.limits.remember → (w : ℕ) → w ≡ (tables_of s).remembered number
@@ -140,21 +140,19 @@ module _ (s : Space) (m : Moment) (st : EvacuationStage) (is : IsEvacuating s m 
       let low = tells.within in
       let h = place_some s m st is n (st.at n) tells.member (inl refl) in
       let inside = h.2 in
-      let small = (entry_word s m st is number w drawn room read).3.small in
       record {
         is = read ∙ tells.entry;
-        small = small;
-        entry = record { counter = reuse_fits s.limits s.words (word_of_field st.at n i / WORDS_IN_LINE); place = (h.0, omega (arith, inside, small)); index = omega (arith, size, few, low) };
+        entry = record { heap = is.space.limits.blocks.1; counter = reuse_fits s.limits s.words (word_of_field st.at n i / WORDS_IN_LINE); place = (h.0, omega (arith, inside)); index = omega (arith, size, few, low) };
         in_heap = field_within s m st is n i (st.at n) tells.member tells.within (inl refl);
       }
 
   -- it is current
   pub field_current : number < (tables_of s).cursors REMEMBERED_CURSOR → number < s.limits.remember → (w : ℕ) (answer : Bool) → w ≡ (tables_of s).remembered number
-      → ((counter : ℕ) (place : Place) (index : ℕ) → IsEntryWord s.limits w counter place index → (IsTrue answer ↔ (counter ≡ (tables_of s).reuse (line_of_field place index)))) → IsTrue answer
+      → ((counter : ℕ) (place : Place) (index : ℕ) → IsEntryWord s.limits w counter place index → (IsTrue answer ↔ (kept_counter s.limits.blocks counter ≡ kept_counter s.limits.blocks ((tables_of s).reuse (line_of_field place index))))) → IsTrue answer
   field_current drawn room w answer read told = (told _ _ _ (field_entry drawn room w read)).1 refl
 
   -- its parts
-  pub field_parts : number < (tables_of s).cursors REMEMBERED_CURSOR → number < s.limits.remember → (w : ℕ) (parts : ℕ × Place × ℕ) → w ≡ (tables_of s).remembered number → ((counter : ℕ) (place : Place) (index : ℕ) → IsEntry counter place index → w ≡ word_of_entry counter place index → parts ≡ (counter, place, index))
+  pub field_parts : number < (tables_of s).cursors REMEMBERED_CURSOR → number < s.limits.remember → (w : ℕ) (parts : ℕ × Place × ℕ) → w ≡ (tables_of s).remembered number → ((counter : ℕ) (place : Place) (index : ℕ) → IsEntry s.limits.blocks counter place index → w ≡ word_of_entry s.limits.blocks counter place index → parts ≡ (kept_counter s.limits.blocks counter, place, index))
       → (parts.1.0 ≡ st.at n) × (parts.2 ≡ i)
   field_parts drawn room w parts read told =
       let entry = field_entry drawn room w read in
@@ -197,8 +195,9 @@ one_entry_more a b m st number before evacuating keeps here = record {
       let low = remembered.1 in
       let entries : (tables_of b).remembered k ≡ (tables_of a).remembered k = ap (λ f. f k) (same_remembered b m st evacuating) ∙ sym (ap (λ f. f k) (same_remembered a m st before.evacuating)) in
       let counter = same_reuse a b m st before.evacuating evacuating (word_of_field st.at n i / WORDS_IN_LINE) in
-      let there : (tables_of a).remembered k ≡ word_of_entry ((tables_of a).reuse (word_of_field st.at n i / WORDS_IN_LINE)) (place_of st.at n) i =
-      sym entries ∙ remembered.2 ∙ ap (λ c. word_of_entry c (place_of st.at n) i) counter in
+      let limits : b.limits ≡ a.limits = same_limits b m st evacuating ∙ sym (same_limits a m st before.evacuating) in
+      let there : (tables_of a).remembered k ≡ word_of_entry a.limits.blocks ((tables_of a).reuse (word_of_field st.at n i / WORDS_IN_LINE)) (place_of st.at n) i =
+      sym entries ∙ remembered.2 ∙ (λ j. word_of_entry (limits j).blocks (counter j) (place_of st.at n) i) in
       elim (leb_tells number k) [
         | inl h ↦
             let high = h.1 in
@@ -230,7 +229,8 @@ all_entries_fixed s m st count has_fixed whole all n i member within =
                   k,
                   omega (arith, low, all),
                   (
-                      ap (λ f. f k) (same_remembered s m st is) ∙ remembered.3 ∙ ap (λ c. word_of_entry c (place_of st.at n) i) (sym (reuse_stays s m st is n i member within))
+                      ap (λ f. f k) (same_remembered s m st is) ∙ remembered.3
+                      ∙ (λ j. word_of_entry (sym (same_limits s m st is) j).blocks (sym (reuse_stays s m st is n i member within) j) (place_of st.at n) i)
                       ),
                 )
             | inr over ↦ absurd (whole over)

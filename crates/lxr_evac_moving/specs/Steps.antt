@@ -151,15 +151,15 @@ FixesFieldAt before after place i =
     (m : Moment) (st : EvacuationStage) (n : Name) → IsEvacuating before m st → IsHolder m st n place → i < length (refs_of (object_at m.state.graph n)) → FixesField before after m st n i
 
 -- the remembered set has an entry of a reference among its first ones, with the reuse counter that the reference's line has now
-abbrev pub IsRememberedBelow : Tables → EvacuationStage → ℕ → Name → ℕ → Type 0
-IsRememberedBelow t st count n i = (k : ℕ) × (k < count)
-    × (t.remembered k ≡ word_of_entry (t.reuse (word_of_field st.at n i / WORDS_IN_LINE)) (place_of st.at n) i)
+abbrev pub IsRememberedBelow : ℕ → Tables → EvacuationStage → ℕ → Name → ℕ → Type 0
+IsRememberedBelow blocks t st count n i = (k : ℕ) × (k < count)
+    × (t.remembered k ≡ word_of_entry blocks (t.reuse (word_of_field st.at n i / WORDS_IN_LINE)) (place_of st.at n) i)
 
 -- nothing is cleared yet, and each reference that has an entry among the first ones is fixed
 pub record HasFixedEntries (s : Space) (m : Moment) (st : EvacuationStage) (count : ℕ) : Type 0 where
   pub evacuating : IsEvacuating s m st
   pub uncleared : st.cleared ≡ 0
-  pub fixed : (n : Name) (i : ℕ) → IsTrue (has m.unreclaimed n) → i < length (refs_of (object_at m.state.graph n)) → IsRememberedBelow (tables_of s) st count n i
+  pub fixed : (n : Name) (i : ℕ) → IsTrue (has m.unreclaimed n) → i < length (refs_of (object_at m.state.graph n)) → IsRememberedBelow s.limits.blocks (tables_of s) st count n i
       → IsFixed (tables_of s) m st n i
 
 -- the set has such an entry; then its reference is fixed too

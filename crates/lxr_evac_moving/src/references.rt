@@ -51,14 +51,13 @@ fn fix_reference(space: &mut Space, place: Place, index: u16)
     }
 }
 
-/// Fixes the reference of an entry, where its line wasn't handed out since it was remembered, and an object with such a reference begins
-/// at its place.
+/// Fixes the reference of an entry that is current, where an object with such a reference begins at its place.
 fn fix_entry(space: &mut Space, number: u32)
     requires { MayFixEntry space.old number }
     ensures { FixesEntry space.old space.new number }
 {
     let entry = space.remembered_at(number);
-    let (_, place, index) = entry_of(entry);
+    let (_, place, index) = entry_of(space.limits.blocks, entry);
     if !is_current(space, entry) || !space.has_start(granule_of(place)) {
         return;
     }

@@ -15,7 +15,6 @@ use Rattle.lxr_layout.specs.declared.TheConstants.{GRANULES_IN_BLOCK, GRANULES_I
 use Rattle.lxr_layout.specs.declared.Name.{Name}
 use Rattle.lxr_layout.specs.declared.Shape.{Shape}
 use Rattle.lxr_layout.specs.Objects.{FitsShape, line_count}
-use Rattle.lxr_layout.specs.Spaces.{most_chosen}
 use Rattle.lxr_graph.specs.State.{Graph, Object, world_name}
 use Rattle.lxr_graph.specs.Names.{AreInOrder, IsSetOf, has, same_name, union, without}
 use Rattle.lxr_graph.proofs.NameSets.{has_one, in_order-without, in_without, not_both, same_names, union_cases, union_left, union_right, without_parts}
@@ -245,7 +244,7 @@ pub waiting_may_collect : WaitingMayCollect
 waiting_may_collect s g shape between world fits full =
     let none = all_leave_no_run s g shape between.safepoint.holds between.outs world full in
     let few = between.safepoint.holds.blocks.few in
-    let more : s.limits.blocks - most_chosen s.limits.blocks - 1 ≤ s.limits.blocks - chosen_count (tables_of s) s.limits.blocks - 1 = omega (arith, few) in
+    let more : s.limits.blocks - s.limits.evacuate - 1 ≤ s.limits.blocks - chosen_count (tables_of s) s.limits.blocks - 1 = omega (arith, few) in
     let slots = mul-le-mul_right (LINES_IN_BLOCK / line_count shape) more in
     omega (arith, none, slots)
 

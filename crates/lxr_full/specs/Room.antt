@@ -1,9 +1,8 @@
 -- What follows where no room is left for a new object, each law the contract of a function with an empty body.
-use Rattle.std.specs.Prelude.{◌≡◌, ◌≢◌, ◌+◌, ◌-◌, ◌/◌, ◌≤◌, ◌↔◌, Some, List, [], ◌∷◌, IsTrue, length}
+use Rattle.std.specs.Prelude.{◌≡◌, ◌≢◌, ◌+◌, ◌-◌, ◌≤◌, ◌↔◌, Some, List, [], ◌∷◌, IsTrue, length}
 use Rattle.lxr_layout.specs.declared.Name.{Name}
 use Rattle.lxr_layout.specs.declared.Shape.{Shape}
 use Rattle.lxr_layout.specs.Objects.{FitsShape, line_count}
-use Rattle.lxr_layout.specs.Spaces.{most_chosen}
 use Rattle.lxr_graph.specs.Names.{IsSetOf, has, union, without}
 use Rattle.lxr_graph.specs.State.{Graph, Object, object_at, world, world_name}
 use Rattle.lxr_graph.specs.History.{Item}
@@ -24,7 +23,7 @@ use Rattle.lxr_invariant.specs.Quiescent.{IsAtSafepoint, IsQuiescent}
 -- an eighth of all blocks is Chosen.
 abbrev pub RoomlessBlocksAreTaken : Type 0
 RoomlessBlocksAreTaken = (s : Space) (g : AbstractState) (shape : Shape) → IsQuiescent s g → FitsShape shape → IsFull s shape
-    → s.limits.blocks - most_chosen s.limits.blocks ≤ length g.moment.unreclaimed + length g.moment.made
+    → s.limits.blocks - s.limits.evacuate ≤ length g.moment.unreclaimed + length g.moment.made
 
 -- the world has the 64 references of the opening, and no data
 abbrev pub HasWorld : Graph → Type 0
@@ -38,7 +37,7 @@ WorldKeepsShape = (terms : Terms) (h : List Item) → IsLegalSoFar terms h → H
 -- leave no run outside the blocks that may be Chosen, at most an eighth of all.
 abbrev pub WaitingMayCollect : Type 0
 WaitingMayCollect = (s : Space) (g : AbstractState) (shape : Shape) → IsQuiescent s g → HasWorld g.moment.state.graph → FitsShape shape → IsFull s shape
-    → LeaveNoRun g.moment.state.graph (without (union g.moment.made g.moment.unreclaimed) (world_name ∷ [])) (s.limits.blocks - most_chosen s.limits.blocks) (line_count shape)
+    → LeaveNoRun g.moment.state.graph (without (union g.moment.made g.moment.unreclaimed) (world_name ∷ [])) (s.limits.blocks - s.limits.evacuate) (line_count shape)
 
 -- Where no room is left right after a pause, no block is Chosen and exactly what is reachable is unreclaimed, the reachable
 -- objects but the world can leave no run.

@@ -55,9 +55,9 @@ fn push_opening_row(registers: &mut Vec<Option<Name>>) -> Result<(), AllocError>
 }
 
 impl Graph {
-    /// The opening state of 1 to 16 threads: the world alone, held by r0 of each thread.
+    /// The opening state of 1 to 255 threads: the world alone, held by r0 of each thread.
     pub fn new(alloc: Global, threads: u8) -> Result<Graph, AllocError>
-        requires { (1 ≤ threads) × (threads ≤ 16) }
+        requires { 1 ≤ threads }
         ensures { IfOk result (λ graph. graph ≡ opening threads) }
     {
         let world = Body::new(

@@ -27,7 +27,7 @@ use Rattle.lxr_heap.specs.declared.heap.Heap.{Heap}
 
 -- the limits of the space: one thread, whose log has 1,024 entries; no trace runs beside it, so nothing is remembered for one
 abbrev pub limits_of : ℕ → Limits
-limits_of blocks = record { blocks = blocks; threads = 1; log = 1024; remember = 1 }
+limits_of blocks = record { blocks = blocks; threads = 1; log = 1024; remember = 1; evacuate = 0 }
 
 -- the blocks of the heap, and those for bodies
 abbrev pub terms_of : Heap → LargeTerms

@@ -24,6 +24,7 @@ pub(crate) fn open(alloc: Global, blocks: u32, bodies: u32) -> Result<Heap, Allo
         threads: MUTATOR,
         log: LOG,
         remember: 1,
+        evacuate: 0,
     };
     let mut space = Space::empty(alloc);
     space.open(alloc, limits)?;

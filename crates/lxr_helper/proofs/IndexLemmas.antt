@@ -5,9 +5,9 @@ use Rattle.lxr_layout.specs.Spaces.{AreLimits}
 use Rattle.lxr_helper.specs.Indexes.{SpacesHaveIndexes}
 
 -- the list of decrements has few words
-few_listed : (l : Limits) → AreLimits l → l.threads * (l.log + 16) ≤ 16 * 65552
+few_listed : (l : Limits) → AreLimits l → l.threads * (l.log + 16) ≤ 255 * 65552
 few_listed l are =
-    let threads : l.threads ≤ 16 = omega arith in
+    let threads : l.threads ≤ 255 = omega arith in
     let entries : l.log + 16 ≤ 65552 = omega arith in
     mul-le-mul threads entries
 

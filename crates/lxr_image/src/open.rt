@@ -98,6 +98,7 @@ impl Space {
                 threads: 0,
                 log: 0,
                 remember: 0,
+                evacuate: 0,
             },
             registers: Listed::new(alloc),
             deferred: Listed::new(alloc),

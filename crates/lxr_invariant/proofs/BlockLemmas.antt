@@ -3,10 +3,9 @@
 use Rattle.std.proofs.Common.{◌≡◌, ◌≢◌, ℕ, zero, suc, ◌+◌, ◌-◌, ◌*◌, ◌<◌, ◌≤◌, refl, sym, ap, subst, ◌∙◌, inl, inr, ◌⊎◌, arith, cond, Bool, true, false, nat_eq}
 use Rattle.std.specs.Prelude.{◌&&◌, ◌==◌, not, IsTrue, Option, None, if◌then◌else◌}
 use Rattle.std.proofs.lemmas.Bool.Decides.{eqb_tells}
-use Rattle.lxr_layout.specs.declared.TheConstants.{GRANULES_IN_LINE, LINES_IN_BLOCK, MOST_BLOCKS_REMEMBERED, TRACING_WORD}
+use Rattle.lxr_layout.specs.declared.TheConstants.{GRANULES_IN_LINE, LINES_IN_BLOCK, TRACING_WORD}
+use Rattle.lxr_layout.specs.declared.limits.Limits.{Limits}
 use Rattle.lxr_layout.specs.declared.runs.Run.{Run}
-use Rattle.lxr_layout.specs.Spaces.{most_chosen}
-use Rattle.lxr_layout.proofs.SpaceLemmas.{chosen_in_small}
 use Rattle.lxr_image.specs.Tables.{Tables}
 use Rattle.lxr_blocks.specs.declared.states.BlockState.{BlockState}
 use Rattle.lxr_blocks.specs.declared.states.BlockState.TheVariants.{Chosen, Free, Partly, Whole, World}
@@ -14,7 +13,7 @@ use Rattle.lxr_blocks.specs.Lines.{IsFreeRun, are_zero, free_count, free_in, is_
 use Rattle.lxr_blocks.specs.States.{KeepsState, is_fixed, state_by_lines, state_in, state_of}
 use Rattle.lxr_blocks.specs.Handing.{first_line, is_between, with_lines_out}
 use Rattle.lxr_model.specs.Moments.{Trace}
-use Rattle.lxr_invariant.specs.Lines.{ChosenNeedTrace, HasBlocks, NoneChosen, chosen_count, is_chosen}
+use Rattle.lxr_invariant.specs.Lines.{ChosenNeedTrace, HasBlocks, NoneChosen, is_chosen}
 use Rattle.lxr_invariant.proofs.FrameLemmas.{chosen_same, need_same}
 
 -- ---- kept states
@@ -49,14 +48,14 @@ still_world t u (inl e) h = ap state_of e ∙ h
 still_world t u (inr (was, now)) h = absurd (let k : true ≡ false = ap is_fixed (sym h) ∙ was in cc)
 
 -- the same blocks are Chosen, and block 0 alone is World
-pub blocks_kept : (t u : Tables) (blocks : ℕ) (trace : Option Trace) → ((b : ℕ) → KeepsState t u b) → u.cursors TRACING_WORD ≡ t.cursors TRACING_WORD → HasBlocks t blocks trace → HasBlocks u blocks trace
-blocks_kept t u blocks trace states cursor is =
-    let same = chosen_same t u blocks (λ b low. still_chosen t u b (states b)) in
+pub blocks_kept : (t u : Tables) (l : Limits) (trace : Option Trace) → ((b : ℕ) → KeepsState t u b) → u.cursors TRACING_WORD ≡ t.cursors TRACING_WORD → HasBlocks t l trace → HasBlocks u l trace
+blocks_kept t u l trace states cursor is =
+    let same = chosen_same t u l.blocks (λ b low. still_chosen t u b (states b)) in
     record {
       world = still_world t u (states 0) is.world;
       others = λ b low high. still_not t u b World refl (states b) (is.others b low high);
-      few = subst (λ z. z ≤ most_chosen blocks) (sym same) is.few;
-      chosen = need_same t u blocks trace same is.chosen;
+      few = subst (λ z. z ≤ l.evacuate) (sym same) is.few;
+      chosen = need_same t u l.blocks trace same is.chosen;
       tracing = cursor ∙ is.tracing;
     }
 
@@ -80,14 +79,9 @@ none_counted t (suc k) b none within is = elim (eqb_tells b k) [
   | inr e ↦ let differ = e.1 in none_counted t k b (omega (arith, none)) (omega arith) is
 ]
 
--- where one is Chosen, entries have room for the places of the heap
-pub small_where_chosen : (t : Tables) (blocks b : ℕ) → chosen_count t blocks ≤ most_chosen blocks → b < blocks → state_in t b ≡ Chosen → blocks ≤ MOST_BLOCKS_REMEMBERED
-small_where_chosen t blocks b few within is =
-    let some : chosen_count t blocks ≢ 0 = λ none. none_counted t blocks b none within is in chosen_in_small blocks (omega (arith, few, some))
-
 -- no block is Chosen where no trace runs
-pub none_chosen : (t : Tables) (blocks : ℕ) (trace : Option Trace) (b : ℕ) → HasBlocks t blocks trace → trace ≡ None → b < blocks → state_in t b ≢ Chosen
-none_chosen t blocks trace b has_blocks no_trace within = none_counted t blocks b (subst (ChosenNeedTrace t blocks) no_trace has_blocks.chosen) within
+pub none_chosen : (t : Tables) (l : Limits) (trace : Option Trace) (b : ℕ) → HasBlocks t l trace → trace ≡ None → b < l.blocks → state_in t b ≢ Chosen
+none_chosen t l trace b has_blocks no_trace within = none_counted t l.blocks b (subst (ChosenNeedTrace t l.blocks) no_trace has_blocks.chosen) within
 
 -- ---- free lines
 

@@ -5,7 +5,7 @@ use Rattle.lxr_layout.specs.declared.Name.{Name}
 use Rattle.lxr_layout.specs.declared.limits.Limits.{Limits}
 use Rattle.lxr_layout.specs.declared.TheConstants.{DECREMENT_COUNT, DECREMENT_CURSOR, GRANULES_IN_BLOCK, GRANULES_IN_LINE, STUCK, TRACING_WORD}
 use Rattle.lxr_layout.specs.Places.{first_word}
-use Rattle.lxr_layout.specs.Spaces.{AreLimits, all_regions, most_chosen, region_begin}
+use Rattle.lxr_layout.specs.Spaces.{AreLimits, all_regions, region_begin}
 use Rattle.lxr_graph.specs.Names.{has}
 use Rattle.lxr_graph.specs.State.{Graph}
 use Rattle.lxr_image.specs.declared.space.Space.{Space}
@@ -83,12 +83,12 @@ pub need_same : (t u : Tables) (blocks : ℕ) (trace : Option Trace) → chosen_
 need_same t u blocks None same is = same ∙ is
 need_same t u blocks (Some trace) same is = is
 
-pub blocks_still : (t u : Tables) (blocks : ℕ) (trace : Option Trace) → u.states ≡ t.states → u.cursors TRACING_WORD ≡ t.cursors TRACING_WORD → HasBlocks t blocks trace → HasBlocks u blocks trace
-blocks_still t u blocks trace states tracing is = record {
+pub blocks_still : (t u : Tables) (l : Limits) (trace : Option Trace) → u.states ≡ t.states → u.cursors TRACING_WORD ≡ t.cursors TRACING_WORD → HasBlocks t l trace → HasBlocks u l trace
+blocks_still t u l trace states tracing is = record {
   world = ap (λ f. state_of (f 0)) states ∙ is.world;
   others = λ b from below e. is.others b from below (sym (ap (λ f. state_of (f b)) states) ∙ e);
-  few = subst (λ n. n ≤ most_chosen blocks) (sym (chosen_still t u blocks states)) is.few;
-  chosen = need_same t u blocks trace (chosen_still t u blocks states) is.chosen;
+  few = subst (λ n. n ≤ l.evacuate) (sym (chosen_still t u l.blocks states)) is.few;
+  chosen = need_same t u l.blocks trace (chosen_still t u l.blocks states) is.chosen;
   tracing = tracing ∙ is.tracing;
 }
 
@@ -232,7 +232,7 @@ holds_still s after m at same agree is =
       lines = out_still t u m.state.graph at m.made agree.outs is.lines;
       unchosen = unchosen_still t u at m.made agree.states is.unchosen;
       unused = unused_still t u at m.unreclaimed m.unreclaimed agree.states agree.outs itself is.unused;
-      blocks = subst (λ l. HasBlocks u l.blocks m.trace) (sym limits) (blocks_still t u s.limits.blocks m.trace agree.states agree.tracing is.blocks);
+      blocks = subst (λ l. HasBlocks u l m.trace) (sym limits) (blocks_still t u s.limits m.trace agree.states agree.tracing is.blocks);
       rest = rest_left s after m at m.unreclaimed itself (ap (λ z. z.rest_next) same) (ap (λ z. z.rest_end) same) limits agree.outs agree.states is.rest;
       no_work = ap (λ z. z.work.items) same ∙ is.no_work;
     }

@@ -1,11 +1,16 @@
 -- How many references a trace may have remembered: what a pause adds at most in the largest heap, and the sum over the pauses so far.
-use Rattle.std.proofs.Common.{◌≡◌, ℕ, ◌+◌, ◌*◌, ◌≤◌, arith, mul-le-mul_left, mul-le-mul_right}
-use Rattle.lxr_layout.specs.declared.TheConstants.{MOST_BLOCKS, MOST_WORDS}
+use Rattle.std.proofs.Common.{◌≡◌, ℕ, ◌+◌, ◌*◌, ◌≤◌, arith, mul-le-mul, mul-le-mul_left, mul-le-mul_right}
+use Rattle.lxr_layout.specs.declared.TheConstants.{MOST_WORDS}
+use Rattle.lxr_layout.specs.declared.limits.Limits.{Limits}
+use Rattle.lxr_layout.specs.Spaces.{AreLimits}
 use Rattle.lxr_invariant.specs.Tracing.{most_remembered}
 
 -- in any heap
-pub most_any_heap : (blocks : ℕ) → blocks ≤ MOST_BLOCKS → most_remembered blocks ≤ 2 * MOST_WORDS
-most_any_heap blocks small = omega (arith, small)
+pub most_any_heap : (l : Limits) → AreLimits l → most_remembered l ≤ 2 * MOST_WORDS
+most_any_heap l are =
+    let blocks = are.blocks.1 in
+    let logs : l.threads * l.log ≤ 255 * 65536 = mul-le-mul are.threads.1 are.log.1 in
+    omega (arith, blocks, logs)
 
 -- the next pause adds no more than one part
 pub part_more : (most before more number : ℕ) → before ≤ most * (number + 1) → more ≤ most → before + more ≤ most * (number + 1 + 1)

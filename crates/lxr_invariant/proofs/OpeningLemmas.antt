@@ -122,7 +122,7 @@ none_chosen l (suc b) = ap (λ c. cond c 1 0 + chosen_count (opened_tables l) b)
 pub free_at : (l : Limits) (b : ℕ) → 1 ≤ b → state_in (opened_tables l) b ≡ Free
 free_at l b some = ap (λ c. state_of (cond c WORLD_STATE 0)) (unlike_number b 0 (λ e. omega arith))
 
-opening_blocks : (l : Limits) → HasBlocks (opened_tables l) l.blocks None
+opening_blocks : (l : Limits) → HasBlocks (opened_tables l) l None
 opening_blocks l =
     let none = none_chosen l l.blocks in
     record {
@@ -174,7 +174,7 @@ opening_holds s l is opened image =
       lines = λ n o k member covers. no_member n member;
       unchosen = λ n member. no_member n member;
       unused = subst (λ z. FreeAreUnused z opening_at (world_name ∷ [])) (sym same) (opening_unused l);
-      blocks = subst (λ z. HasBlocks (tables_of s) z.blocks None) (sym opened.limits) (subst (λ z. HasBlocks z l.blocks None) (sym same) (opening_blocks l));
+      blocks = subst (λ z. HasBlocks (tables_of s) z None) (sym opened.limits) (subst (λ z. HasBlocks z l None) (sym same) (opening_blocks l));
       rest = record {
         rest = inl (opened.rest.0 ∙ sym opened.rest.1);
         apart = λ n o k member covers. inr (subst (λ z. z ≤ k) (sym opened.rest.1) (omega arith));

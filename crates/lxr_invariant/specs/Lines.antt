@@ -2,7 +2,7 @@
 use Rattle.std.specs.Prelude.{◌≡◌, ◌≢◌, ℕ, zero, suc, ◌+◌, ◌/◌, ◌%◌, ◌<◌, ◌≤◌, ◌⊎◌, ⊤, Bool, false, true, Option, Some, None, List, IsTrue, if◌then◌else◌}
 use Rattle.lxr_layout.specs.declared.Name.{Name}
 use Rattle.lxr_layout.specs.declared.TheConstants.{GRANULES_IN_BLOCK, GRANULES_IN_LINE, LINES_IN_BLOCK, STUCK, TRACING_WORD}
-use Rattle.lxr_layout.specs.Spaces.{most_chosen}
+use Rattle.lxr_layout.specs.declared.limits.Limits.{Limits}
 use Rattle.lxr_graph.specs.Names.{has}
 use Rattle.lxr_graph.specs.State.{Graph, Object, object_at}
 use Rattle.lxr_image.specs.declared.space.Space.{Space}
@@ -98,12 +98,12 @@ abbrev pub tracing_word : Option Trace → ℕ
 tracing_word None = 0
 tracing_word (Some trace) = 1
 
--- Block 0 is World, and no other block is. At most an eighth of the blocks is Chosen, and none where no trace runs.
-pub record HasBlocks (t : Tables) (blocks : ℕ) (trace : Option Trace) : Type 0 where
+-- Block 0 is World, and no other block is. No more blocks are Chosen than may be, and none where no trace runs.
+pub record HasBlocks (t : Tables) (l : Limits) (trace : Option Trace) : Type 0 where
   pub world : state_in t 0 ≡ World
-  pub others : (b : ℕ) → 1 ≤ b → b < blocks → state_in t b ≢ World
-  pub few : chosen_count t blocks ≤ most_chosen blocks
-  pub chosen : ChosenNeedTrace t blocks trace
+  pub others : (b : ℕ) → 1 ≤ b → b < l.blocks → state_in t b ≢ World
+  pub few : chosen_count t l.blocks ≤ l.evacuate
+  pub chosen : ChosenNeedTrace t l.blocks trace
   pub tracing : t.cursors TRACING_WORD ≡ tracing_word trace
 
 -- The rest of the lines that a pause placed on last: it is empty or lies in one line that is out and outside Chosen

@@ -30,7 +30,7 @@ pub record HoldsMoment (s : Space) (m : Moment) (at : Name → ℕ) : Type 0 whe
   pub lines : LinesAreOut (tables_of s) m.state.graph at m.made
   pub unchosen : AvoidChosen (tables_of s) at m.made
   pub unused : FreeAreUnused (tables_of s) at m.unreclaimed
-  pub blocks : HasBlocks (tables_of s) s.limits.blocks m.trace
+  pub blocks : HasBlocks (tables_of s) s.limits m.trace
   pub rest : KeepsRest s m at
   pub no_work : s.work.items ≡ []
 

@@ -72,7 +72,7 @@ pub record IsRaised (s : Space) (m : Moment) (at : Name → ℕ) (promoted stuck
   pub none_done : (k : ℕ) → (tables_of s).dones k ≡ false
   pub none_out : (line : ℕ) → (tables_of s).outs line ≡ false
   pub unused : FreeAreUnused (tables_of s) at (with_promoted m promoted)
-  pub blocks : HasBlocks (tables_of s) s.limits.blocks m.trace
+  pub blocks : HasBlocks (tables_of s) s.limits m.trace
   pub decrements : ((tables_of s).cursors DECREMENT_CURSOR ≡ 0) × ((tables_of s).cursors DECREMENT_COUNT ≡ 0)
   pub no_rest : s.rest_next ≡ s.rest_end
   pub no_work : s.work.items ≡ []

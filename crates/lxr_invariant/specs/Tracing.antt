@@ -1,8 +1,8 @@
 -- What holds of marks, grays and remembered entries at a safepoint while a trace runs. A marked object counts as scanned, and
 -- one that is done as handled.
-use Rattle.std.specs.Prelude.{◌≡◌, ℕ, ◌+◌, ◌*◌, ◌/◌, ◌^◌, ◌<◌, ◌≤◌, ◌⊎◌, ◌&&◌, ⊤, not, Bool, false, Option, Some, None, List, IsTrue, filter, slice_get}
+use Rattle.std.specs.Prelude.{◌≡◌, ℕ, ◌+◌, ◌*◌, ◌/◌, ◌<◌, ◌≤◌, ◌⊎◌, ◌&&◌, ⊤, not, Bool, false, Option, Some, None, List, IsTrue, filter, slice_get}
 use Rattle.lxr_invariant.specs.Standing.{word_of_field}
-use Rattle.lxr_layout.specs.declared.TheConstants.{GRANULES_IN_BLOCK, MOST_BLOCKS_REMEMBERED, REMEMBERED_CURSOR, WORDS_IN_BLOCK, WORDS_IN_LINE}
+use Rattle.lxr_layout.specs.declared.TheConstants.{GRANULES_IN_BLOCK, REMEMBERED_CURSOR, WORDS_IN_BLOCK, WORDS_IN_LINE}
 use Rattle.lxr_layout.specs.declared.limits.Limits.{Limits}
 use Rattle.lxr_layout.specs.declared.Name.{Name}
 use Rattle.lxr_layout.specs.declared.LogEntry.{LogEntry}
@@ -103,13 +103,12 @@ HasOverflowed l t = l.remember < t.cursors REMEMBERED_CURSOR
 -- a field has an entry with the reuse counter that its line has now
 abbrev pub IsRemembered : Limits → Tables → (Name → ℕ) → Name → ℕ → Type 0
 IsRemembered l t at n i = (k : ℕ) × (k < t.cursors REMEMBERED_CURSOR) × (k < l.remember)
-    × (t.remembered k ≡ word_of_entry (t.reuse (word_of_field at n i / WORDS_IN_LINE)) (record { 0 = at n }) i)
+    × (t.remembered k ≡ word_of_entry l.blocks (t.reuse (word_of_field at n i / WORDS_IN_LINE)) (record { 0 = at n }) i)
 
--- an entry of the remembered set is that of a field, whose word is one of the heap; entries have room for the places of this heap
+-- an entry of the remembered set is that of a field, whose word is one of the heap
 pub record IsEntryWord (l : Limits) (word : ℕ) (c : ℕ) (p : Place) (i : ℕ) : Type 0 where
-  pub is : word ≡ word_of_entry c p i
-  pub small : l.blocks ≤ MOST_BLOCKS_REMEMBERED
-  pub entry : IsEntry c p i
+  pub is : word ≡ word_of_entry l.blocks c p i
+  pub entry : IsEntry l.blocks c p i
   pub in_heap : first_word p.0 + 1 + i < WORDS_IN_BLOCK * l.blocks
 
 -- a tracer has scanned the object, or it was promoted since the trace began
@@ -141,9 +140,9 @@ pub record IsRememberedSoFar (l : Limits) (t : Tables) (m : Moment) (at : Name �
   pub bound : t.cursors REMEMBERED_CURSOR + unscanned_slots t m at snapshot ≤ rememberable trace snapshot
 
 -- how many references a pause adds at most to those that may be remembered: those of all objects that fit into the heap, or those of what it
--- promotes and the stored ones, of which 16 threads log 65,536 each
-abbrev pub most_remembered : ℕ → ℕ
-most_remembered blocks = WORDS_IN_BLOCK * blocks + 2 ^ 20
+-- promotes and the stored ones, which the logs of all threads have room for
+abbrev pub most_remembered : Limits → ℕ
+most_remembered l = WORDS_IN_BLOCK * l.blocks + l.threads * l.log
 
 -- all of this, for the trace that runs and the names of its snapshot
 pub record TraceHolds (l : Limits) (t : Tables) (entries : List LogEntry) (g : AbstractState) (trace : Trace) : Type 0 where
@@ -154,7 +153,7 @@ pub record TraceHolds (l : Limits) (t : Tables) (entries : List LogEntry) (g : A
   pub handled : HandledAreGray t g.moment g.at
   pub remembered : IsRememberedSoFar l t g.moment g.at trace snapshot
   -- no more than each pause so far may have added
-  pub few : rememberable trace snapshot ≤ most_remembered l.blocks * (g.moment.number + 1)
+  pub few : rememberable trace snapshot ≤ most_remembered l * (g.moment.number + 1)
 
 -- nothing is asked where none runs
 abbrev pub IsTracedBy : Limits → Tables → List LogEntry → AbstractState → Option Trace → Type 0

@@ -1,15 +1,13 @@
 -- What a judge's tests tell of the history behind which it stands.
-use Rattle.std.proofs.Common.{◌≡◌, ℕ, suc, ◌+◌, ◌-◌, ◌^◌, ◌<◌, ◌≤◌, inl, inr, ◌⊎◌, Bool, true, false, IsTrue, List, [], ◌∷◌, ◌++◌, Some, None, length, take, drop, refl, sym, ap, subst, ◌∙◌, arith, nat_eq, min}
-use Rattle.std.specs.Prelude.{◌↔◌, ◌≢◌, ◌%◌, ◌&&◌, ◌||◌, not, Option, IfSome, slice_get, slice_index_or}
+use Rattle.std.proofs.Common.{◌≡◌, ℕ, suc, ◌+◌, ◌-◌, ◌^◌, ◌<◌, ◌≤◌, inl, inr, Bool, true, false, IsTrue, List, [], ◌∷◌, ◌++◌, Some, None, length, take, drop, refl, sym, ap, subst, ◌∙◌, arith, nat_eq, min}
+use Rattle.std.specs.Prelude.{◌↔◌, Option, IfSome, slice_get, slice_index_or}
 use Rattle.std.specs.List.{list_any}
 use Rattle.std.specs.Option.{option_map}
-use Rattle.std.proofs.lemmas.Bool.{cases_Bool, cases_lt, cond-true, cond-false, eqb-true, eq-eqb, ltb-true, lt-ltb, leb-true, le-leb, or_left, or_right, or_cases, and_parts, and_from, not-true, not_from_false, false_from_ne_true, true≢false}
+use Rattle.std.proofs.lemmas.Bool.{cases_Bool, cases_lt, cond-true, cond-false, eqb-true, eq-eqb, and_parts, and_from, true≢false}
 use Rattle.std.proofs.lemmas.List.{length_push, take_more, take_all}
-use Rattle.std.proofs.lemmas.Option.{same_Some, none-some, slice_get_within, get_or_from_slice_get}
-use Rattle.lxr_layout.specs.declared.Name.{Name}
+use Rattle.std.proofs.lemmas.Option.{same_Some, slice_get_within, get_or_from_slice_get}
 use Rattle.lxr_layout.specs.declared.Shape.{Shape}
 use Rattle.lxr_layout.specs.Objects.{line_count}
-use Rattle.lxr_layout.specs.Spaces.{most_chosen}
 use Rattle.lxr_graph.specs.declared.Op.{Op}
 use Rattle.lxr_graph.specs.declared.Op.TheVariants as op
 use Rattle.lxr_graph.specs.declared.Reply.{Reply}
@@ -18,22 +16,19 @@ use Rattle.lxr_graph.specs.declared.report.Kind.{Kind}
 use Rattle.lxr_graph.specs.declared.report.Kind.TheVariants as kind
 use Rattle.lxr_graph.specs.Step.{IsWellFormed, step}
 use Rattle.lxr_graph.specs.Names.{union, without}
-use Rattle.lxr_graph.specs.State.{Graph, State, row_of, world_name}
+use Rattle.lxr_graph.specs.State.{State, row_of, world_name}
 use Rattle.lxr_graph.specs.History.{PauseReport, Item, Call, Pause, Renew, calls_of}
-use Rattle.lxr_graph.proofs.NameSets.{one_set}
 use Rattle.lxr_graph.proofs.RowLemmas.{slice_get-push}
 use Rattle.lxr_text_script.specs.Lines.{Text}
 use Rattle.lxr_graph.specs.declared.Item as ordered
 use Rattle.lxr_model.specs.Terms.{Terms}
-use Rattle.lxr_model.specs.Moments.{Trace, Moment, moment, state_at}
-use Rattle.lxr_model.specs.Kinds.{collect_called, ends, MustCollect, OnlyNewsSincePause, IsRunning, NeedsNoTrace, MayStand}
-use Rattle.lxr_model.specs.Full.{LeaveNoRun, IsRightAfterCollecting, MayBeFull, slots_in, slots_taken}
+use Rattle.lxr_model.specs.Moments.{Trace, moment, state_at}
+use Rattle.lxr_model.specs.Kinds.{MayStand}
+use Rattle.lxr_model.specs.Full.{MayBeFull}
 use Rattle.lxr_model.specs.Legal.{Replies}
-use Rattle.lxr_model.specs.Belongs.{operations_of, next_operation, LastPauseWasEarly, EndsWithPause}
-use Rattle.lxr_model_decide.specs.Legality.{must_collect, only_news_since_pause, is_running, may_begin, needs_no_trace, may_stand, is_collect, leave_no_run, is_right_after_collecting}
-use Rattle.lxr_model_decide.specs.Belonging.{last_pause_was_early, ends_with_pause}
+use Rattle.lxr_model.specs.Belongs.{operations_of, next_operation}
+use Rattle.lxr_model_decide.specs.Legality.{must_collect, only_news_since_pause, may_stand, is_right_after_collecting}
 use Rattle.lxr_model_decide.specs.Reports.{report_at, CanBe}
-use Rattle.lxr_model_decide.specs.Sets.{reachable_names}
 use Rattle.lxr_model_decide.proofs.LegalityLemmas.{must_right}
 use Rattle.lxr_model_decide.proofs.TestLemmas.{full_iff, must_test, run_iff, stand_iff}
 use Rattle.lxr_judge_report.specs.LastPauses.{running_of, began_of}
@@ -167,12 +162,12 @@ full_fails terms h t dest shape r line says never replies printed =
 -- ---- runs
 
 pub none_here : (e : Evidence) (h : List Item) (j : Judging) (shape : Shape) (none : Bool) (blocks lines : ℕ) → Keeps e j h → position.Tells j.position (kept_leave_no_run blocks lines) none
-    → blocks ≡ e.terms.blocks - most_chosen e.terms.blocks → lines ≡ line_count shape → IsTrue none ↔ LeavesNoRun e h shape
+    → blocks ≡ e.terms.blocks - e.terms.evacuate → lines ≡ line_count shape → IsTrue none ↔ LeavesNoRun e h shape
 none_here e h j shape none blocks lines keeps tells blocks_is lines_is =
     let m = moment e.terms.threads h in
-    let same : none ≡ kept_leave_no_run (e.terms.blocks - most_chosen e.terms.blocks) (line_count shape) m = tells m keeps.position ∙ (rw (blocks_is, lines_is) refl) in (
-      λ is. (run_iff m.state.graph (without (union m.made m.unreclaimed) (world_name ∷ [])) (e.terms.blocks - most_chosen e.terms.blocks) (line_count shape)).0 (sym same ∙ is),
-      λ waits. same ∙ (run_iff m.state.graph (without (union m.made m.unreclaimed) (world_name ∷ [])) (e.terms.blocks - most_chosen e.terms.blocks) (line_count shape)).1 waits,
+    let same : none ≡ kept_leave_no_run (e.terms.blocks - e.terms.evacuate) (line_count shape) m = tells m keeps.position ∙ (rw (blocks_is, lines_is) refl) in (
+      λ is. (run_iff m.state.graph (without (union m.made m.unreclaimed) (world_name ∷ [])) (e.terms.blocks - e.terms.evacuate) (line_count shape)).0 (sym same ∙ is),
+      λ waits. same ∙ (run_iff m.state.graph (without (union m.made m.unreclaimed) (world_name ∷ [])) (e.terms.blocks - e.terms.evacuate) (line_count shape)).1 waits,
     )
 
 -- ---- steps

@@ -1,7 +1,6 @@
 -- A judge behind the items that passed, and what it finds of the next one.
 use Rattle.std.specs.Prelude.{◌≡◌, ℕ, ◌+◌, ◌-◌, ◌<◌, ◌≤◌, ◌⊎◌, ◌^◌, ◌%◌, Bool, true, false, not, ◌&&◌, ◌||◌, nat_eq, nat_lt, Option, Some, None, List, [], ◌∷◌, IsTrue, length}
 use Rattle.lxr_layout.specs.declared.Shape.{Shape}
-use Rattle.lxr_layout.specs.Spaces.{most_chosen}
 use Rattle.lxr_graph.specs.declared.Op.{Op}
 use Rattle.lxr_graph.specs.declared.Op.TheVariants as op
 use Rattle.lxr_graph.specs.declared.Reply.{Reply}
@@ -45,7 +44,7 @@ pub record IsJudging (e : Evidence) (j : Judging) : Type 0 where
 -- an operation may have waited for a pause at this moment: a `new` that found no block, or a write that found its log full
 abbrev pub MayWait : Evidence → Moment → Option Op → Type 0
 MayWait e m o =
-    (IsTrue (is_new o) × (e.terms.blocks - most_chosen e.terms.blocks ≤ length m.unreclaimed + length m.made))
+    (IsTrue (is_new o) × (e.terms.blocks - e.terms.evacuate ≤ length m.unreclaimed + length m.made))
     ⊎ (IsTrue (writes_reference o) × (e.terms.log ≤ length m.written))
 
 -- the objects that are unreclaimed or made behind h could leave no run for a shape

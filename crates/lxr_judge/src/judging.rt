@@ -1,8 +1,7 @@
 //! A judge at work: item by item, what an item takes is found, and whether it passes.
-ghost use Rattle.std.specs.Prelude.{◌≡◌, ℕ, ◌+◌, ◌-◌, ◌%◌, ◌<◌, ◌≤◌, ◌↔◌, nat_eq, List, [], false, IfOk, IsTrue, Some, length, slice_get};
+ghost use Rattle.std.specs.Prelude.{◌≡◌, ℕ, ◌+◌, ◌-◌, ◌/◌, ◌%◌, ◌<◌, ◌≤◌, ◌↔◌, nat_eq, List, [], false, IfOk, IsTrue, Some, length, slice_get};
 ghost use Rattle.std.specs.Option.{IfSome, option_map};
 ghost use Rattle.lxr_layout.specs.Objects.{FitsShape};
-ghost use Rattle.lxr_layout.specs.Spaces.{most_chosen};
 ghost use Rattle.lxr_graph.specs.declared.Op.{Op};
 ghost use Rattle.lxr_graph.specs.History as history;
 ghost use Rattle.lxr_graph.specs.Step.{IsWellFormed};
@@ -25,7 +24,7 @@ use crate::sources::Sources;
 use lxr_case::{Item, Terms};
 use lxr_graph::{Kind, Op, Reply};
 use lxr_judge_report::Position;
-use lxr_layout::{Shape, lines_of, most_chosen};
+use lxr_layout::{Shape, lines_of};
 use lxr_text_print::Page;
 use std::alloc::{AllocError, Global};
 
@@ -35,6 +34,13 @@ pub(crate) struct Judging {
     pub(crate) position: Position,
     pub(crate) progress: Progress,
     pub(crate) page: Page,
+}
+
+/// How many of so many blocks are never chosen for evacuation: all but an eighth.
+fn unchosen(blocks: u32) -> u32
+    ensures { result ≡ blocks - blocks / 8 }
+{
+    blocks - blocks / 8
 }
 
 impl Judging {
@@ -97,9 +103,9 @@ impl Judging {
 
     /// Whether blocks may be taken all but those that may be chosen for evacuation.
     fn blocks_are_taken(&self, blocks: u32) -> bool
-        ensures { (m : Moment) → IsAt self.now.position m → IsTrue result ↔ (blocks - most_chosen blocks ≤ length m.unreclaimed + length m.made) }
+        ensures { (m : Moment) → IsAt self.now.position m → IsTrue result ↔ (blocks - blocks / 8 ≤ length m.unreclaimed + length m.made) }
     {
-        let free = (blocks - most_chosen(blocks)) as usize;
+        let free = unchosen(blocks) as usize;
         let made = self.position.made_count();
         self.position.unreclaimed_count() >= free.saturating_sub(made)
     }
@@ -170,7 +176,7 @@ impl Judging {
         let blocks = sources.terms().blocks;
         let none = self
             .position
-            .kept_leave_no_run(alloc, blocks - most_chosen(blocks), lines_of(shape))?;
+            .kept_leave_no_run(alloc, unchosen(blocks), lines_of(shape))?;
         Ok(none)
     }
 

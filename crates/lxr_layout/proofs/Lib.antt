@@ -1,1 +1,1 @@
-pub mod SpaceLemmas
+pub mod EntryLemmas

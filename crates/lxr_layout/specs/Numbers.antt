@@ -1,6 +1,6 @@
 -- The numbers of the geometry and of the cursors.
 use Rattle.std.specs.Prelude.{◌≡◌, ◌*◌, ◌^◌}
-use Rattle.lxr_layout.specs.declared.TheConstants.{COUNT_BITS, COUNT_WORDS_IN_BLOCK, DECREMENT_COUNT, DECREMENT_CURSOR, FREE_BLOCK_COUNT, FREE_BLOCK_CURSOR, GRANULES_IN_BLOCK, GRANULES_IN_LINE, LINES_IN_BLOCK, MOST_BLOCKS, MOST_BLOCKS_REMEMBERED, MOST_GRANULES, MOST_GRANULES_REMEMBERED, MOST_WORDS, PAUSE_WORD, REMEMBERED_CURSOR, RUN_COUNT, RUN_CURSOR, STUCK, TRACING_WORD, WORDS_IN_BLOCK, WORDS_IN_LINE, WORLD_LINES, WORLD_REFS}
+use Rattle.lxr_layout.specs.declared.TheConstants.{COUNT_BITS, COUNT_WORDS_IN_BLOCK, DECREMENT_COUNT, DECREMENT_CURSOR, FREE_BLOCK_COUNT, FREE_BLOCK_CURSOR, GRANULES_IN_BLOCK, GRANULES_IN_LINE, LINES_IN_BLOCK, MOST_BLOCKS, MOST_BLOCKS_OF_SMALL, MOST_GRANULES, MOST_WORDS, PAUSE_WORD, REMEMBERED_CURSOR, RUN_COUNT, RUN_CURSOR, STUCK, TRACING_WORD, WORDS_IN_BLOCK, WORDS_IN_LINE, WORLD_LINES, WORLD_REFS}
 
 -- a block of 32 KB has 128 lines of 256 bytes; a granule has two words of 8 bytes
 pub record HasGeometry : Type 0 where
@@ -12,13 +12,12 @@ pub record HasGeometry : Type 0 where
   pub world_lines : WORLD_LINES ≡ 3
   pub world_refs : WORLD_REFS ≡ 64
 
--- the largest heap, and the largest in which blocks are chosen for evacuation
+-- the largest heap, and the largest small one
 pub record HasLargest : Type 0 where
   pub blocks : MOST_BLOCKS ≡ 65536
   pub granules : MOST_GRANULES ≡ 2 ^ 27
   pub words : MOST_WORDS ≡ 2 ^ 28
-  pub remembered_blocks : MOST_BLOCKS_REMEMBERED ≡ 1024
-  pub remembered_granules : MOST_GRANULES_REMEMBERED ≡ 2 ^ 21
+  pub small_blocks : MOST_BLOCKS_OF_SMALL ≡ 1024
 
 -- which word of the region of cursors is which
 pub record HasCursors : Type 0 where

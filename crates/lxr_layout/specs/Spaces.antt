@@ -1,19 +1,17 @@
 -- How large a space is, and where its regions begin.
-use Rattle.std.specs.Prelude.{ℕ, ◌+◌, ◌*◌, ◌/◌, ◌≤◌, nat_le, if◌then◌else◌, List, [], ◌∷◌, take, sum}
-use Rattle.lxr_layout.specs.declared.TheConstants.{COUNT_WORDS_IN_BLOCK, MOST_BLOCKS, MOST_BLOCKS_REMEMBERED, WORDS_IN_BLOCK}
+use Rattle.std.specs.Prelude.{ℕ, ◌+◌, ◌*◌, ◌/◌, ◌≤◌, List, [], ◌∷◌, take, sum}
+use Rattle.lxr_layout.specs.declared.TheConstants.{COUNT_WORDS_IN_BLOCK, MOST_BLOCKS, WORDS_IN_BLOCK}
 use Rattle.lxr_layout.specs.declared.limits.Limits.{Limits}
 use Rattle.lxr_layout.specs.declared.limits.Regions.{Regions}
 
--- 1 to 65,536 blocks, 1 to 16 threads, logs of 1 to 65,536 entries, a remembered set of 1 to 1,048,576
+-- 1 to 65,536 blocks, 1 to 255 threads, logs of 1 to 65,536 entries, a remembered set of 1 to 1,048,576, and at most an eighth of the
+-- blocks chosen for evacuation
 pub record AreLimits (l : Limits) : Type 0 where
   pub blocks : (1 ≤ l.blocks) × (l.blocks ≤ MOST_BLOCKS)
-  pub threads : (1 ≤ l.threads) × (l.threads ≤ 16)
+  pub threads : (1 ≤ l.threads) × (l.threads ≤ 255)
   pub log : (1 ≤ l.log) × (l.log ≤ 65536)
   pub remember : (1 ≤ l.remember) × (l.remember ≤ 1048576)
-
--- the most blocks that may be Chosen in a heap of so many: an eighth of them; none where entries have no room for its places
-abbrev pub most_chosen : ℕ → ℕ
-most_chosen blocks = if nat_le blocks MOST_BLOCKS_REMEMBERED then (blocks / 8) else 0
+  pub evacuate : l.evacuate ≤ l.blocks / 8
 
 -- ---- the number of each region, in their order
 

@@ -18,8 +18,8 @@ mod spaces;
 pub use fields::MOST_FIELDS;
 pub use laws::constants_have_numbers;
 pub use limits::{Limits, Regions};
-pub use runs::{LogEntry, Run, entry_of, entry_word, run_of, run_word};
-pub use spaces::{most_chosen, regions};
+pub use runs::{LogEntry, Run, entry_of, entry_word, kept_counter, run_of, run_word};
+pub use spaces::regions;
 
 /// The words of a block of 32 KB.
 pub const WORDS_IN_BLOCK: u32 = 4096;
@@ -45,11 +45,8 @@ pub const MOST_GRANULES: u32 = MOST_BLOCKS * GRANULES_IN_BLOCK;
 /// The words of the largest heap.
 pub const MOST_WORDS: u32 = MOST_BLOCKS * WORDS_IN_BLOCK;
 
-/// The most blocks of a heap in which blocks are chosen for evacuation, since a remembered entry has 22 bits for a place.
-pub const MOST_BLOCKS_REMEMBERED: u32 = 1024;
-
-/// The granules of the largest heap in which blocks are chosen, and so the greatest place of a remembered entry.
-pub const MOST_GRANULES_REMEMBERED: u32 = MOST_BLOCKS_REMEMBERED * GRANULES_IN_BLOCK;
+/// The most blocks of a small heap: a remembered entry has 22 bits for a place of one, and 28 for a place of a larger heap.
+pub const MOST_BLOCKS_OF_SMALL: u32 = 1024;
 
 /// The lines that the world takes, which stands at the front of block 0.
 pub const WORLD_LINES: u32 = 3;

@@ -5,12 +5,14 @@
 pub struct Limits {
     /// Blocks of the heap, 1 to `MOST_BLOCKS`.
     pub blocks: u32,
-    /// Threads, 1 to 16.
+    /// Threads, 1 to 255.
     pub threads: u8,
     /// Entries of one thread's log, 1 to 65,536.
     pub log: u32,
     /// Entries of the remembered set, 1 to 1,048,576.
     pub remember: u32,
+    /// The most blocks that are chosen for evacuation when a trace begins, 0 to an eighth of all.
+    pub evacuate: u32,
 }
 
 /// The index of the first word of each region of a space, and the number of all its words.

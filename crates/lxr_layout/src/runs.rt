@@ -1,9 +1,9 @@
 //! Runs of free lines, log entries and remembered entries, with the words that tables keep of them.
-ghost use Rattle.std.specs.Prelude.{◌≡◌, ℕ, ◌<◌, ◌≤◌};
+ghost use Rattle.std.specs.Prelude.{◌≡◌, ℕ, ◌+◌, ◌*◌, ◌%◌, ◌^◌, ◌<◌, ◌≤◌};
 ghost use Rattle.lxr_layout.specs.declared.TheConstants.{MOST_BLOCKS};
-ghost use Rattle.lxr_layout.specs.Runs.{IsEntry, IsRun, word_of_entry, word_of_run};
+ghost use Rattle.lxr_layout.specs.Runs.{IsEntry, IsRun, kept_counter, word_of_entry, word_of_run};
 
-use crate::Place;
+use crate::{MOST_BLOCKS_OF_SMALL, Place};
 
 /// Lines of one block that stand in a row.
 #[derive(Clone, Copy, Debug, PartialEq, Eq)]
@@ -50,12 +50,11 @@ pub fn run_of(word: u64) -> Run
     }
 }
 
-/// The word of a remembered entry: a reference `index` of the object at `place`, with the reuse counter of
-/// that reference's line. It has room for the low 22 bits of the place, and so for each place of a heap of at most
-/// `MOST_BLOCKS_REMEMBERED` blocks.
-pub fn entry_word(counter: u32, place: Place, index: u16) -> u64
+/// The word of an entry in which a place has 22 bits.
+#[inline]
+fn small_entry(counter: u32, place: Place, index: u16) -> u64
     requires { index ≤ 1022 }
-    ensures { result ≡ word_of_entry counter place index }
+    ensures { result ≡ index + place.0 % 2 ^ 22 * 2 ^ 10 + counter * 2 ^ 32 }
 {
     let index = u64::from(index);
     let place = u64::from(place.0 & 0x3f_ffff) << 10;
@@ -63,13 +62,56 @@ pub fn entry_word(counter: u32, place: Place, index: u16) -> u64
     index | place | counter
 }
 
-/// The counter, place and index of a word that `entry_word` gives.
-pub fn entry_of(word: u64) -> (u32, Place, u16)
-    requires { (counter : ℕ) × (place : Place) × (index : ℕ) × IsEntry counter place index × (word ≡ word_of_entry counter place index) }
-    ensures { (counter : ℕ) → (place : Place) → (index : ℕ) → IsEntry counter place index → word ≡ word_of_entry counter place index → result ≡ (counter, place, index) }
+/// The word of an entry in which a place has 28 bits.
+#[inline]
+fn large_entry(counter: u32, place: Place, index: u16) -> u64
+    requires { index ≤ 1022 }
+    ensures { result ≡ index + place.0 % 2 ^ 28 * 2 ^ 10 + counter % 2 ^ 26 * 2 ^ 38 }
 {
-    let counter = (word >> 32) as u32;
-    let place = Place((word >> 10 & 0x3f_ffff) as u32);
-    let index = (word & 0x3ff) as u16;
-    (counter, place, index)
+    let index = u64::from(index);
+    let place = u64::from(place.0 & 0xfff_ffff) << 10;
+    let counter = u64::from(counter & 0x3ff_ffff) << 38;
+    index | place | counter
+}
+
+/// The word of a remembered entry in a heap of so many blocks: a reference `index` of the object at `place`, with what an entry keeps of
+/// the reuse counter of that reference's line. It has room for the low 22 bits of the place and 32 of the counter in a heap of at most
+/// `MOST_BLOCKS_OF_SMALL` blocks, and for 28 and 26 in a larger one.
+pub fn entry_word(blocks: u32, counter: u32, place: Place, index: u16) -> u64
+    requires { index ≤ 1022 }
+    ensures { result ≡ word_of_entry blocks counter place index }
+{
+    if blocks <= MOST_BLOCKS_OF_SMALL {
+        small_entry(counter, place, index)
+    } else {
+        large_entry(counter, place, index)
+    }
+}
+
+/// What an entry keeps of a line's reuse counter in a heap of so many blocks: all of it, or the low 26 bits in a heap of more than
+/// `MOST_BLOCKS_OF_SMALL`.
+pub fn kept_counter(blocks: u32, counter: u32) -> u32
+    ensures { result ≡ kept_counter blocks counter }
+{
+    if blocks <= MOST_BLOCKS_OF_SMALL {
+        counter
+    } else {
+        counter & 0x3ff_ffff
+    }
+}
+
+/// What is kept of the counter, the place and the index of a word that `entry_word` gives in a heap of so many blocks.
+pub fn entry_of(blocks: u32, word: u64) -> (u32, Place, u16)
+    requires { (counter : ℕ) × (place : Place) × (index : ℕ) × IsEntry blocks counter place index × (word ≡ word_of_entry blocks counter place index) }
+    ensures { (counter : ℕ) → (place : Place) → (index : ℕ) → IsEntry blocks counter place index → word ≡ word_of_entry blocks counter place index
+        → result ≡ (kept_counter blocks counter, place, index) }
+{
+    let index = (word % 1024) as u16;
+    if blocks <= MOST_BLOCKS_OF_SMALL {
+        let place = Place((word / 1024 % (1 << 22)) as u32);
+        ((word >> 32) as u32, place, index)
+    } else {
+        let place = Place((word / 1024 % (1 << 28)) as u32);
+        ((word >> 38) as u32, place, index)
+    }
 }

@@ -1,21 +1,9 @@
 //! Where the parts of a space begin in its one list of words.
 ghost use Rattle.std.specs.Prelude.{◌≡◌};
-ghost use Rattle.lxr_layout.specs.Spaces.{AreLimits, most_chosen, regions_of};
+ghost use Rattle.lxr_layout.specs.Spaces.{AreLimits, regions_of};
 
 use crate::limits::{Limits, Regions};
-use crate::{COUNT_WORDS_IN_BLOCK, MOST_BLOCKS_REMEMBERED, WORDS_IN_BLOCK};
-
-/// The most blocks that may be Chosen in a heap of so many: an eighth of them, and none in a heap of more than
-/// `MOST_BLOCKS_REMEMBERED`.
-pub fn most_chosen(blocks: u32) -> u32
-    ensures { result ≡ most_chosen blocks }
-{
-    if blocks <= MOST_BLOCKS_REMEMBERED {
-        blocks / 8
-    } else {
-        0
-    }
-}
+use crate::{COUNT_WORDS_IN_BLOCK, WORDS_IN_BLOCK};
 
 /// Where each region begins: right behind the one before it, in the order of the fields.
 pub fn regions(limits: Limits) -> Regions

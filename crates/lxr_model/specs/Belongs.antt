@@ -1,6 +1,5 @@
 -- When a history belongs to a script: each thread's operations once and in order, and pauses for a cause.
 use Rattle.std.specs.Prelude.{◌≡◌, ℕ, suc, ◌+◌, ◌-◌, ◌<◌, ◌≤◌, ◌⊎◌, Bool, true, false, ◌&&◌, ◌||◌, nat_eq, Option, Some, List, [], ◌∷◌, ◌++◌, IsTrue, length, slice_get, slice_index_or, if◌then◌else◌}
-use Rattle.lxr_layout.specs.Spaces.{most_chosen}
 use Rattle.lxr_graph.specs.declared.Op.{Op}
 use Rattle.lxr_graph.specs.declared.Op.TheVariants as op
 use Rattle.lxr_graph.specs.History.{Item, Call, Pause, Renew, calls_of}
@@ -84,7 +83,7 @@ writes_reference _ = false
 
 -- a `new` may have found no block: each block that isn't listed as free holds an object, is block 0, or is chosen
 abbrev pub BlocksAreTaken : Terms → Moment → Type 0
-BlocksAreTaken terms m = terms.blocks - most_chosen terms.blocks ≤ length m.unreclaimed + length m.made
+BlocksAreTaken terms m = terms.blocks - terms.evacuate ≤ length m.unreclaimed + length m.made
 
 -- why a pause may stand after h because of thread t
 abbrev pub IsCauseOf : Terms → Script → List Item → ℕ → Type 0

@@ -2,7 +2,6 @@
 -- Items stand newest first, so what an item asks of those before it is asked of the rest of the list.
 use Rattle.std.specs.Prelude.{◌≡◌, ℕ, ◌-◌, ◌≤◌, List, [], ◌∷◌}
 use Rattle.lxr_layout.specs.Objects.{line_count}
-use Rattle.lxr_layout.specs.Spaces.{most_chosen}
 use Rattle.lxr_graph.specs.declared.Op.{Op}
 use Rattle.lxr_graph.specs.declared.Op.TheVariants as op
 use Rattle.lxr_graph.specs.declared.Reply.{Reply}
@@ -44,7 +43,7 @@ StandsForWaiting terms h report = (report.kind ≡ kind.Collect) × ¬ MustColle
 abbrev pub IsWaitedFor : Terms → List Item → Item → Type 0
 IsWaitedFor terms h (Call t (op.New dest shape) r) =
     let m = moment terms.threads h in
-    LeaveNoRun m.state.graph (without (union m.made m.unreclaimed) (world_name ∷ [])) (terms.blocks - most_chosen terms.blocks) (line_count shape)
+    LeaveNoRun m.state.graph (without (union m.made m.unreclaimed) (world_name ∷ [])) (terms.blocks - terms.evacuate) (line_count shape)
 IsWaitedFor terms h _ = ⊥
 
 -- item x may come right behind the newest item of a history

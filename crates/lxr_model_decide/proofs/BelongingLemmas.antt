@@ -2,7 +2,6 @@
 use Rattle.std.proofs.Common.{◌≡◌, ℕ, zero, suc, ◌+◌, ◌-◌, ◌≤◌, refl, sym, subst, inl, inr, arith, Bool, true, false, List, [], ◌∷◌, IsTrue, nat_eq, length}
 use Rattle.std.specs.Prelude.{◌↔◌, nat_le, not, ◌&&◌, ◌||◌}
 use Rattle.std.proofs.lemmas.Bool.{or_cases, or_left, or_right, and_parts, and_from, not-true, not_from_false}
-use Rattle.lxr_layout.specs.Spaces.{most_chosen}
 use Rattle.lxr_graph.specs.declared.Op.{Op}
 use Rattle.lxr_graph.specs.History.{Item, Call, Pause, Renew, calls_of}
 use Rattle.lxr_graph.proofs.NameSets.{not_both}
@@ -56,7 +55,7 @@ cause_right terms script h t e =
     let asked = has_asked t h in
     let long = nat_le terms.every (calls_since_pause t h) in
     let new = is_new (next_operation script t h) in
-    let taken = nat_le (terms.blocks - most_chosen terms.blocks) (length m.unreclaimed + length m.made) in
+    let taken = nat_le (terms.blocks - terms.evacuate) (length m.unreclaimed + length m.made) in
     let writes = writes_reference (next_operation script t h) in
     let full = nat_le terms.log (length m.written) in
     elim (or_cases (asked || long) ((new && taken) || (writes && full)) e) [
@@ -65,7 +64,7 @@ cause_right terms script h t e =
         | inr k ↦ inr (inl (le_from_test terms.every (calls_since_pause t h) k))
       ]
       | inr k ↦ elim (or_cases (new && taken) (writes && full) k) [
-        | inl k ↦ let a = and_parts new taken k in inr (inr (inl (a.0, le_from_test (terms.blocks - most_chosen terms.blocks) (length m.unreclaimed + length m.made) a.1)))
+        | inl k ↦ let a = and_parts new taken k in inr (inr (inl (a.0, le_from_test (terms.blocks - terms.evacuate) (length m.unreclaimed + length m.made) a.1)))
         | inr k ↦ let a = and_parts writes full k in inr (inr (inr (a.0, le_from_test terms.log (length m.written) a.1)))
       ]
     ]
@@ -137,14 +136,14 @@ cause_test terms script h t e =
     let asked = has_asked t h in
     let long = nat_le terms.every (calls_since_pause t h) in
     let new = is_new (next_operation script t h) in
-    let taken = nat_le (terms.blocks - most_chosen terms.blocks) (length m.unreclaimed + length m.made) in
+    let taken = nat_le (terms.blocks - terms.evacuate) (length m.unreclaimed + length m.made) in
     let writes = writes_reference (next_operation script t h) in
     let full = nat_le terms.log (length m.written) in
     elim e [
       | inl k ↦ or_left (asked || long) ((new && taken) || (writes && full)) (or_left asked long k)
       | inr (inl k) ↦ or_left (asked || long) ((new && taken) || (writes && full)) (or_right asked long (test_from_le terms.every (calls_since_pause t h) k))
       | inr (inr (inl k)) ↦ or_right (asked || long) ((new && taken) || (writes && full)) (or_left (new && taken) (writes && full)
-          (and_from new taken k.0 (test_from_le (terms.blocks - most_chosen terms.blocks) (length m.unreclaimed + length m.made) k.1)))
+          (and_from new taken k.0 (test_from_le (terms.blocks - terms.evacuate) (length m.unreclaimed + length m.made) k.1)))
       | inr (inr (inr k)) ↦ or_right (asked || long) ((new && taken) || (writes && full)) (or_right (new && taken) (writes && full)
           (and_from writes full k.0 (test_from_le terms.log (length m.written) k.1)))
     ]

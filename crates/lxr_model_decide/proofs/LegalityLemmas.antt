@@ -5,7 +5,6 @@ use Rattle.std.proofs.lemmas.Bool.{or_cases, or_left, or_right, and_parts, and_f
 use Rattle.lxr_layout.specs.declared.Name.{Name}
 use Rattle.lxr_layout.specs.declared.Shape.{Shape}
 use Rattle.lxr_layout.specs.Objects.{line_count}
-use Rattle.lxr_layout.specs.Spaces.{most_chosen}
 use Rattle.lxr_graph.specs.declared.Op.{Op}
 use Rattle.lxr_graph.specs.declared.Op.TheVariants as op
 use Rattle.lxr_graph.specs.declared.Reply.{Reply}
@@ -145,7 +144,7 @@ replies_right terms h t o r e same = same
 waited_right : (terms : Terms) (h : List Item) (x : Item) → IsTrue (is_waited_for terms (moment terms.threads h) x) → IsWaitedFor terms h x
 waited_right terms h (Call t (op.New dest shape) r) e =
     let m = moment terms.threads h in
-    run_right m.state.graph (without (union m.made m.unreclaimed) (world_name ∷ [])) (terms.blocks - most_chosen terms.blocks) (line_count shape) e
+    run_right m.state.graph (without (union m.made m.unreclaimed) (world_name ∷ [])) (terms.blocks - terms.evacuate) (line_count shape) e
 waited_right terms h (Call t _ r) e = absurd (cc)
 waited_right terms h (Pause report) e = absurd (cc)
 waited_right terms h (Renew ns) e = absurd (cc)

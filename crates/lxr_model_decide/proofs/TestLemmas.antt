@@ -6,7 +6,6 @@ use Rattle.std.proofs.lemmas.Bool.{or_left, or_right, and_parts, and_from, not-t
 use Rattle.lxr_layout.specs.declared.Name.{Name}
 use Rattle.lxr_layout.specs.declared.Shape.{Shape}
 use Rattle.lxr_layout.specs.Objects.{line_count}
-use Rattle.lxr_layout.specs.Spaces.{most_chosen}
 use Rattle.lxr_graph.specs.declared.Op.{Op}
 use Rattle.lxr_graph.specs.declared.Op.TheVariants as op
 use Rattle.lxr_graph.specs.declared.Reply.{Reply}
@@ -111,7 +110,7 @@ replies_test terms h t o r e = (refl, e)
 waited_test : (terms : Terms) (h : List Item) (x : Item) → IsWaitedFor terms h x → IsTrue (is_waited_for terms (moment terms.threads h) x)
 waited_test terms h (Call t (op.New dest shape) r) e =
     let m = moment terms.threads h in
-    run_test m.state.graph (without (union m.made m.unreclaimed) (world_name ∷ [])) (terms.blocks - most_chosen terms.blocks) (line_count shape) e
+    run_test m.state.graph (without (union m.made m.unreclaimed) (world_name ∷ [])) (terms.blocks - terms.evacuate) (line_count shape) e
 waited_test terms h (Call t _ r) e = absurd e
 waited_test terms h (Pause report) e = absurd e
 waited_test terms h (Renew ns) e = absurd e

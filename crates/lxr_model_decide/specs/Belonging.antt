@@ -1,6 +1,5 @@
 -- Whether a history belongs to a script, computed point by point.
 use Rattle.std.specs.Prelude.{◌≡◌, ℕ, zero, suc, ◌+◌, ◌-◌, Bool, true, false, not, ◌&&◌, ◌||◌, nat_eq, nat_lt, nat_le, List, [], ◌∷◌, IsTrue, length}
-use Rattle.lxr_layout.specs.Spaces.{most_chosen}
 use Rattle.lxr_graph.specs.declared.Op.{Op}
 use Rattle.lxr_graph.specs.History.{Item, Call, Pause, Renew, calls_of}
 use Rattle.lxr_model.specs.Terms.{Terms}
@@ -36,7 +35,7 @@ turns_are_short terms (Call t o r ∷ h) = turns_are_short terms h && nat_le (ca
 abbrev pub is_cause : Terms → Script → List Item → Moment → ℕ → Bool
 is_cause terms script h m t =
     (has_asked t h || nat_le terms.every (calls_since_pause t h))
-    || ((is_new (next_operation script t h) && nat_le (terms.blocks - most_chosen terms.blocks) (length m.unreclaimed + length m.made))
+    || ((is_new (next_operation script t h) && nat_le (terms.blocks - terms.evacuate) (length m.unreclaimed + length m.made))
     || (writes_reference (next_operation script t h) && nat_le terms.log (length m.written)))
 
 -- one of threads 1 to n passes a test

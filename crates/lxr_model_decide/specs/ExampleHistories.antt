@@ -114,7 +114,7 @@ TraceSweepsCycle = IsRunOf traced_terms (traced_cycle ∷ []) traced_cycle_run
 
 -- one block, of which an object of the largest shape leaves no run for a second one
 abbrev pub one_block : Terms
-one_block = record usual_terms { blocks = 1 }
+one_block = record usual_terms { blocks = 1; evacuate = 0 }
 
 abbrev pub largest : ℕ → Op
 largest dest = op.New dest (record { refs = 1023; values = 1023 })
@@ -164,7 +164,7 @@ StoreWaitsForLog = IsRunOf one_entry (storing_twice ∷ []) storing_twice_run
 -- ---- an object that a trace finds reachable
 
 abbrev pub eight_blocks : Terms
-eight_blocks = record traced_terms { blocks = 8 }
+eight_blocks = record traced_terms { blocks = 8; evacuate = 1 }
 
 -- two references of the world and a register hold 1.1
 abbrev pub holding : List Op

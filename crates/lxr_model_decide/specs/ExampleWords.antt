@@ -15,7 +15,7 @@ use Rattle.lxr_model.specs.Belongs.{Script, Belongs}
 
 -- one thread, and the numbers that a run has unless told otherwise
 abbrev pub usual_terms : Terms
-usual_terms = record { threads = 1; blocks = 64; every = 1024; log = 1024; trace = 8; within = 4; renews = false }
+usual_terms = record { threads = 1; blocks = 64; evacuate = 8; every = 1024; log = 1024; trace = 8; within = 4; renews = false }
 
 -- the name of thread 1's object of this serial
 abbrev pub made : ℕ → Name

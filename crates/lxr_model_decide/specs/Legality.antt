@@ -4,7 +4,6 @@ use Rattle.std.specs.Prelude.{◌≡◌, ℕ, ◌+◌, ◌-◌, ◌%◌, Bool, t
 use Rattle.lxr_layout.specs.declared.Name.{Name}
 use Rattle.lxr_layout.specs.declared.Shape.{Shape}
 use Rattle.lxr_layout.specs.Objects.{line_count}
-use Rattle.lxr_layout.specs.Spaces.{most_chosen}
 use Rattle.lxr_graph.specs.declared.Op.{Op}
 use Rattle.lxr_graph.specs.declared.Op.TheVariants as op
 use Rattle.lxr_graph.specs.declared.Reply.{Reply}
@@ -102,7 +101,7 @@ stands_for_waiting terms h report = is_collect report.kind && not (must_collect 
 -- the `new` behind a pause that stands for it, which came after a history that leads to m
 abbrev pub is_waited_for : Terms → Moment → Item → Bool
 is_waited_for terms m (Call t (op.New dest shape) r) =
-    leave_no_run m.state.graph (without (union m.made m.unreclaimed) (world_name ∷ [])) (terms.blocks - most_chosen terms.blocks) (line_count shape)
+    leave_no_run m.state.graph (without (union m.made m.unreclaimed) (world_name ∷ [])) (terms.blocks - terms.evacuate) (line_count shape)
 is_waited_for terms m _ = false
 
 -- an item may come right behind the newest of a history

@@ -38,4 +38,4 @@ module _ (d : Dialogue) (r : Reply) where
   stays_kept None is =
       let more = length-append d.replies.items (r ∷ []) in
       let one = is.one in
-      record { room = is.room; few = is.few; one = omega (arith, more, one) }
+      record { room = is.room; one = omega (arith, more, one) }

@@ -1,5 +1,6 @@
 pub mod AgendaLemmas
 pub mod RunLemmas
+pub mod MostLemmas
 pub mod OrderLemmas
 pub mod NowLemmas
 pub mod StraightLemmas

@@ -300,7 +300,7 @@ count_same m = sym (length-map m.replies.items blank)
 
 so_without : (m : Mutating) → IsMutator m → IsMutator (without_names m)
 so_without m is = record {
-  setup = record { thread = is.setup.thread; operations = is.setup.operations; few = is.setup.few; room = is.setup.room; indexes = is.setup.indexes; every = is.setup.every; before = is.setup.before };
+  setup = record { thread = is.setup.thread; operations = is.setup.operations; few = is.setup.few; room = is.setup.room; most = is.setup.most; indexes = is.setup.indexes; every = is.setup.every; before = is.setup.before };
   registers = is.registers;
   spans = is.spans;
   few_replies = subst (λ n. n ≤ length m.operations + 1) (count_same m) is.few_replies;
@@ -316,7 +316,7 @@ so_without m is = record {
 
 so_with : (m : Mutating) → IsMutator (without_names m) → IsMutator m
 so_with m is = record {
-  setup = record { thread = is.setup.thread; operations = is.setup.operations; few = is.setup.few; room = is.setup.room; indexes = is.setup.indexes; every = is.setup.every; before = is.setup.before };
+  setup = record { thread = is.setup.thread; operations = is.setup.operations; few = is.setup.few; room = is.setup.room; most = is.setup.most; indexes = is.setup.indexes; every = is.setup.every; before = is.setup.before };
   registers = is.registers;
   spans = is.spans;
   few_replies = subst (λ n. n ≤ length m.operations + 1) (sym (count_same m)) is.few_replies;

@@ -1,11 +1,10 @@
 -- A mutator takes an order exactly where it may, and is a mutator again.
 use Rattle.std.proofs.Common.{◌≡◌, ◌≢◌, ◌+◌, ◌<◌, ◌≤◌, [], ◌∷◌, Bool, true, false, arith, refl, sym, subst, inl, inr, length}
-use Rattle.std.specs.Prelude.{◌&&◌, Decides, if◌then◌else◌, nat_lt}
+use Rattle.std.specs.Prelude.{◌&&◌, Decides, if◌then◌else◌}
 use Rattle.std.proofs.lemmas.Bool.{le-leb, leb-true}
 use Rattle.std.proofs.lemmas.Bool.Decides.{Decides-and, Decides-like, Decides-ltb}
 use Rattle.std.proofs.lemmas.List.{length-append}
 use Rattle.std.proofs.lemmas.List.Elements.{All-append, All-cons, All-nil}
-use Rattle.lxr_alloc.specs.declared.TheConstants.{MOST_OPERATIONS}
 use Rattle.lxr_graph.specs.declared.Op.{Op}
 use Rattle.lxr_graph.specs.declared.Op.TheVariants as op
 use Rattle.lxr_graph.specs.Forms.{is_well_formed}
@@ -16,6 +15,7 @@ use Rattle.lxr_mutator.specs.Mutating.{Mutating}
 use Rattle.lxr_mutator.specs.Mutators.{IsMutator, IsOperation, MayBeIn, MayTakeOrder}
 use Rattle.lxr_mutator.specs.Orders.{has_room_for_order, is_idle, is_operation, is_ready, takes_order, with_order}
 use Rattle.lxr_mutator.specs.Laws.{MutatorsTakeOrdersByRule, TakesOrdersByRule}
+use Rattle.lxr_mutator.proofs.MostLemmas.{few_operations}
 
 -- ---- the test
 
@@ -32,10 +32,8 @@ operation_decides op.End = (λ e. absurd (cc), λ is. absurd (is.1 refl))
 operation_decides o = endless o (λ e. absurd (cc))
 
 module _ (m : Mutating) (o : Op) where
-  room_decides : Decides (has_room_for_order m) ((length m.operations + 1 < m.replies.room) × (length m.operations < MOST_OPERATIONS))
-  room_decides =
-      Decides-and (nat_lt (length m.operations + 1) m.replies.room) (nat_lt (length m.operations) MOST_OPERATIONS)
-      (Decides-ltb (length m.operations + 1) m.replies.room) (Decides-ltb (length m.operations) MOST_OPERATIONS)
+  room_decides : Decides (has_room_for_order m) (length m.operations + 2 < m.replies.room)
+  room_decides = Decides-ltb (length m.operations + 2) m.replies.room
 
   idle_decides : Decides (is_idle m) (length m.operations ≤ length m.replies.items)
   idle_decides = (leb-true (length m.operations) (length m.replies.items), le-leb (length m.operations) (length m.replies.items))
@@ -43,8 +41,8 @@ module _ (m : Mutating) (o : Op) where
   pub takes_order_decides : Decides (takes_order m o) (MayTakeOrder m o)
   takes_order_decides =
       Decides-like (takes_order m o)
-      (λ h. record { ready = h.0; idle = h.1.0; operation = h.1.1.0; room = h.1.1.1.0; few = h.1.1.1.1 })
-      (λ may. (may.ready, (may.idle, (may.operation, (may.room, may.few)))))
+      (λ h. record { ready = h.0; idle = h.1.0; operation = h.1.1.0; room = h.1.1.1 })
+      (λ may. (may.ready, (may.idle, (may.operation, may.room))))
       (Decides-and (is_ready m.phase) (is_idle m && (is_operation o && has_room_for_order m)) (ready_decides m.phase)
       (Decides-and (is_idle m) (is_operation o && has_room_for_order m) idle_decides
       (Decides-and (is_operation o) (has_room_for_order m) (operation_decides o) room_decides)))
@@ -58,8 +56,9 @@ module _ (m : Mutating) (o : Op) where
         setup = record {
           thread = is.setup.thread;
           operations = All-append IsOperation m.operations (o ∷ []) is.setup.operations (All-cons IsOperation o [] may.operation (All-nil IsOperation));
-          few = let few = may.few in omega (arith, more, few);
+          few = let room = may.room in let most = is.setup.most in let few = few_operations m.thread in omega (arith, more, room, most, few);
           room = let room = may.room in omega (arith, more, room);
+          most = is.setup.most;
           indexes = is.setup.indexes;
           every = is.setup.every;
           before = is.setup.before;

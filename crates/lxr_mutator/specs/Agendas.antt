@@ -15,10 +15,9 @@ pub record AreKept (d : Dialogue) (kept : Kept) : Type 0 where
   pub replies : kept.replies ≡ d.replies
   pub whole : d.replies.room ≡ length d.operations + 1
 
--- a live thread keeps no list: it always has room, and at most one operation that has no reply yet
+-- a live thread keeps no list: it has room to spare, and at most one operation that has no reply yet
 pub record IsUnkept (d : Dialogue) : Type 0 where
-  pub room : d.replies.room ≡ MOST_OPERATIONS + 2
-  pub few : length d.operations ≤ MOST_OPERATIONS
+  pub room : length d.operations + 2 ≤ d.replies.room
   pub one : length d.operations ≤ length d.replies.items + 1
 
 -- which of the two it is

@@ -1,5 +1,5 @@
 -- What a thread is asked for, and what it has replied.
-use Rattle.std.specs.Prelude.{ℕ, ◌+◌, ◌-◌, Bool, ◌&&◌, nat_lt, Option, List, [], ◌∷◌, ◌++◌, drop, length, slice_get, slice_index_or}
+use Rattle.std.specs.Prelude.{ℕ, ◌+◌, ◌-◌, ◌/◌, Bool, nat_le, nat_lt, if◌then◌else◌, Option, List, [], ◌∷◌, ◌++◌, drop, length, slice_get, slice_index_or}
 use Rattle.lxr_base.specs.Roomy.{Roomy, emptied, pushed}
 use Rattle.lxr_graph.specs.declared.Op.{Op}
 use Rattle.lxr_graph.specs.declared.Op.TheVariants as op
@@ -23,9 +23,15 @@ op_at_hand d = slice_index_or d.operations (length d.replies.items) op.End
 abbrev pub newest : Dialogue → Option Reply
 newest d = slice_get d.replies.items (length d.replies.items - 1)
 
--- there is room for one more operation with its reply, beside that of the thread's end, and a thread has at most 67,108,864
+-- The most operations of a thread of this number: 67,108,864, and a sixteenth of that after the sixteenth thread, so that all threads together do
+-- fewer than 2^31.
+abbrev pub most_operations : ℕ → ℕ
+most_operations thread = if nat_le thread 16 then MOST_OPERATIONS else MOST_OPERATIONS / 16
+
+-- There is room for one more operation with its reply, beside that of the thread's end and one to spare. A live thread has that as long as it has
+-- fewer than the most operations, one of a script never.
 abbrev pub has_more_room : Dialogue → Bool
-has_more_room d = nat_lt (length d.operations + 1) d.replies.room && nat_lt (length d.operations) MOST_OPERATIONS
+has_more_room d = nat_lt (length d.operations + 2) d.replies.room
 
 -- begun anew: the operations that have no reply, and no replies
 abbrev pub begun_anew : Dialogue → Dialogue

@@ -25,7 +25,7 @@ use Rattle.lxr_mutator.specs.declared.phases.MutEnd.{MutEnd}
 use Rattle.lxr_mutator.specs.declared.phases.MutEnd.TheVariants as ends
 use Rattle.lxr_mutator.specs.declared.phases.MutatorPhase.{MutatorPhase}
 use Rattle.lxr_mutator.specs.declared.phases.MutatorPhase.TheVariants as phase
-use Rattle.lxr_mutator.specs.Dialogues.{Dialogue, first_dialogue}
+use Rattle.lxr_mutator.specs.Dialogues.{most_operations, Dialogue, first_dialogue}
 use Rattle.lxr_mutator.specs.Mutating.{Mutating, next_name, nil, op_now, rests_in}
 use Rattle.lxr_mutator.specs.Steps.{shape_now, with_register}
 use Rattle.lxr_mutator.specs.Operating.{dest_of}
@@ -109,11 +109,13 @@ setup_of m = record { thread = m.thread; operations = m.operations; room = m.rep
 
 -- what holds of it
 pub record IsSetup (s : Setup) : Type 0 where
-  pub thread : (1 ≤ s.thread) × (s.thread ≤ 16)
+  pub thread : (1 ≤ s.thread) × (s.thread ≤ 255)
   pub operations : All IsOperation s.operations
   pub few : length s.operations ≤ MOST_OPERATIONS
   -- there is room for each reply, that of the thread's end too
   pub room : length s.operations + 1 ≤ s.room
+  -- and for no more than a thread of this number may have, with its end and one to spare
+  pub most : s.room ≤ most_operations s.thread + 2
   pub indexes : HaveIndexes s.regions
   pub every : (1 ≤ s.every) × (s.every ≤ 1048576)
   -- no more objects were left than a heap has granules
@@ -170,9 +172,9 @@ first_of thread operations limits every most names = first_with thread (first_di
 abbrev pub first : ℕ → List Op → Limits → ℕ → Mutating
 first thread operations limits every = first_of thread operations limits every (length operations) true
 
--- one that is yet to be ordered its operations: it has room for one more than a thread may have, so there always is room
+-- one that is yet to be ordered its operations: it has room for one more than a thread of this number may have, so there always is room
 abbrev pub first_live : ℕ → Limits → ℕ → Bool → Mutating
-first_live thread limits every names = first_of thread [] limits every (MOST_OPERATIONS + 1) names
+first_live thread limits every names = first_of thread [] limits every (most_operations thread + 1) names
 
 -- It has no room for a further operation, as a mutator of a script, which is made with all of its own. A live one always has.
 abbrev pub IsFull : Mutating → Type 0
@@ -184,8 +186,7 @@ pub record MayTakeOrder (m : Mutating) (o : Op) : Type 0 where
   pub ready : m.phase ≡ phase.Ready
   pub idle : length m.operations ≤ length m.replies.items
   pub operation : IsOperation o
-  pub room : length m.operations + 1 < m.replies.room
-  pub few : length m.operations < MOST_OPERATIONS
+  pub room : length m.operations + 2 < m.replies.room
 
 -- its `new` is done from outside with this reply, in no turn of its own
 abbrev pub answered : Mutating → Reply → Mutating

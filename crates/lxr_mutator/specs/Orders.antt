@@ -1,6 +1,5 @@
 -- Orders: a mutator that is between two operations gets one more.
 use Rattle.std.specs.Prelude.{◌+◌, Bool, true, false, ◌&&◌, if◌then◌else◌, nat_le, nat_lt, [], ◌∷◌, ◌++◌, length}
-use Rattle.lxr_alloc.specs.declared.TheConstants.{MOST_OPERATIONS}
 use Rattle.lxr_graph.specs.declared.Op.{Op}
 use Rattle.lxr_graph.specs.declared.Op.TheVariants as op
 use Rattle.lxr_graph.specs.Forms.{is_well_formed}
@@ -24,7 +23,7 @@ is_idle m = nat_le (length m.operations) (length m.replies.items)
 
 -- there is room for one more operation with its reply, beside that of the thread's end, and a thread has at most 67,108,864
 abbrev pub has_room_for_order : Mutating → Bool
-has_room_for_order m = nat_lt (length m.operations + 1) m.replies.room && nat_lt (length m.operations) MOST_OPERATIONS
+has_room_for_order m = nat_lt (length m.operations + 2) m.replies.room
 
 -- whether it takes the operation
 abbrev pub takes_order : Mutating → Op → Bool

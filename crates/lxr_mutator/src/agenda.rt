@@ -6,7 +6,7 @@ ghost use Rattle.std.specs.Prelude.{◌≡◌, ◌+◌, ◌<◌, ◌≤◌, [], 
 ghost use Rattle.lxr_base.specs.Roomy.{pushed};
 ghost use Rattle.lxr_alloc.specs.declared.TheConstants.{MOST_OPERATIONS};
 ghost use Rattle.lxr_mutator.specs.Keeping.{kept_with, next_kept};
-ghost use Rattle.lxr_mutator.specs.Dialogues.{begun_anew, first_dialogue, has_more_room, newest, op_at_hand, with_op, with_reply};
+ghost use Rattle.lxr_mutator.specs.Dialogues.{begun_anew, first_dialogue, has_more_room, most_operations, newest, op_at_hand, with_op, with_reply};
 
 use lxr_alloc::MOST_OPERATIONS;
 use lxr_base::{Chronicle, Listed};
@@ -36,6 +36,19 @@ pub struct Agenda {
 struct Kept {
     operations: Operations,
     replies: Replies,
+}
+
+/// The most operations of a thread of this number: 67,108,864, and a sixteenth of that after the sixteenth thread, so that all threads of a heap
+/// together do fewer than 2^31.
+pub fn most_operations(thread: u8) -> u32
+    ensures most { result ≡ most_operations thread }
+    ensures few { result ≤ MOST_OPERATIONS }
+{
+    if thread <= 16 {
+        MOST_OPERATIONS
+    } else {
+        MOST_OPERATIONS / 16
+    }
 }
 
 impl Model for Agenda {
@@ -73,16 +86,17 @@ impl Agenda {
         })
     }
 
-    /// The agenda of a thread that is yet to be ordered its operations, at most 67,108,864. It takes no memory, and always has room.
-    pub fn live() -> Agenda
-        ensures { result ≡ first_dialogue [] (MOST_OPERATIONS + 1) }
+    /// The agenda of a thread that is yet to be ordered its operations, at most so many. It takes no memory.
+    pub fn live(most: u32) -> Agenda
+        requires { most ≤ MOST_OPERATIONS }
+        ensures { result ≡ first_dialogue [] (most + 1) }
     {
         Agenda {
             orders: Chronicle::new(),
             answers: Chronicle::new(),
             ordered: 0,
             answered: 0,
-            most: MOST_OPERATIONS + 1,
+            most: most + 1,
             at_hand: Op::End,
             newest: None,
             kept: None,
@@ -126,7 +140,7 @@ impl Agenda {
     pub fn has_room(&self) -> bool
         ensures { result ≡ has_more_room self.now }
     {
-        self.ordered < self.most && self.ordered < MOST_OPERATIONS
+        self.ordered + 1 < self.most
     }
 
     /// Puts an operation behind those that there are, all of which have their reply.

@@ -11,6 +11,7 @@ mod mutator;
 mod operating;
 mod phases;
 
+pub use agenda::most_operations;
 pub use laws::{
     causes_end_units, mutators_draw_by_rule, mutators_give_up_by_rules, mutators_may_tell_no_names,
     mutators_stay_so, mutators_step_by_rule, mutators_take_orders_by_rule,

@@ -8,10 +8,11 @@ ghost use Rattle.lxr_alloc.specs.declared.TheConstants.{MOST_OPERATIONS};
 ghost use Rattle.lxr_base.specs.Roomy.{emptied};
 ghost use Rattle.lxr_graph.specs.Step.{IsWellFormed};
 ghost use Rattle.lxr_mutator.specs.Mutating.{IsWaiting, has_collected, newest_of, next_name, op_now, placed_count, register, reply_in, rests_in, tally_of, waiting_by, wants_pause};
+ghost use Rattle.lxr_mutator.specs.Dialogues.{most_operations};
 ghost use Rattle.lxr_mutator.specs.Steps.{shape_now, with_register};
 ghost use Rattle.lxr_mutator.specs.Mutators.{IsFull, IsHeld, IsMutator, IsOperation, IsThrough, again, answered, first, first_live, first_with, held_place, no_spans, renewed, served};
 
-use crate::agenda::Agenda;
+use crate::agenda::{Agenda, most_operations};
 use crate::operating::{dest_of, shape_made};
 use crate::phases::{MutEnd, MutTally, MutatorPhase, Waiting};
 use lxr_actor::Actor;
@@ -75,7 +76,7 @@ impl Mutator {
         requires limits { AreLimits limits }
         requires thread { (1 ≤ thread) × (thread ≤ limits.threads) }
         requires operations { All IsOperation operations.items }
-        requires few { length operations.items ≤ MOST_OPERATIONS }
+        requires few { length operations.items ≤ most_operations thread }
         requires every { (1 ≤ every) × (every ≤ 1048576) }
         ensures { IfOk result (λ m. m ≡ first thread operations.items limits every) }
     {
@@ -83,7 +84,7 @@ impl Mutator {
         Mutator::with_agenda(alloc, thread, agenda, limits, every, true)
     }
 
-    /// The mutator of a thread that is yet to be ordered its operations, at most 67,108,864, in a space of these limits. It does at most
+    /// The mutator of a thread that is yet to be ordered its operations, at most [`most_operations`], in a space of these limits. It does at most
     /// `every` operations in an epoch, and tells the names of what it loads and swaps out, by a look at their headers, where `names` is
     /// true. It takes the memory for its log, and keeps of its operations and replies the one at hand and the newest. A turn with nothing
     /// ordered is the thread's end.
@@ -99,7 +100,8 @@ impl Mutator {
         requires every { (1 ≤ every) × (every ≤ 1048576) }
         ensures { IfOk result (λ m. m ≡ first_live thread limits every names) }
     {
-        Mutator::with_agenda(alloc, thread, Agenda::live(), limits, every, names)
+        let agenda = Agenda::live(most_operations(thread));
+        Mutator::with_agenda(alloc, thread, agenda, limits, every, names)
     }
 
     /// The mutator of a thread with this agenda, as it is made.
@@ -116,6 +118,7 @@ impl Mutator {
         requires operations { All IsOperation agenda.operations }
         requires few { length agenda.operations ≤ MOST_OPERATIONS }
         requires begins { (agenda.replies.items ≡ []) × (length agenda.operations + 1 ≤ agenda.replies.room) }
+        requires most { agenda.replies.room ≤ most_operations thread + 2 }
         requires every { (1 ≤ every) × (every ≤ 1048576) }
         ensures { IfOk result (λ m. m ≡ first_with thread agenda limits every names) }
     {

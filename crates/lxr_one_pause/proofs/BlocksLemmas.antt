@@ -1,8 +1,8 @@
--- What the blocks are once some are chosen or released: block 0 alone is World, and no more than an eighth is Chosen.
-use Rattle.std.proofs.Common.{◌≡◌, ◌≢◌, ℕ, zero, suc, ◌+◌, ◌<◌, ◌≤◌, refl, sym, ap, subst, ◌∙◌, inl, inr, arith, cond, true, false, ◌⊎◌}
+-- What the blocks are once some are chosen or released: block 0 alone is World, and no more are Chosen than may be.
+use Rattle.std.proofs.Common.{◌≡◌, ◌≢◌, ℕ, ◌<◌, ◌≤◌, refl, sym, ap, subst, ◌∙◌, inl, inr, arith, true, false, ◌⊎◌}
 use Rattle.std.specs.Prelude.{Option, Some, None, ◌&&◌, if◌then◌else◌}
 use Rattle.lxr_layout.specs.declared.TheConstants.{REMEMBERED_CURSOR, TRACING_WORD}
-use Rattle.lxr_layout.specs.Spaces.{most_chosen}
+use Rattle.lxr_layout.specs.declared.limits.Limits.{Limits}
 use Rattle.lxr_graph.specs.declared.report.Kind.{Kind}
 use Rattle.lxr_graph.specs.declared.report.Kind.TheVariants as kind
 use Rattle.lxr_image.specs.Tables.{Tables, changed}
@@ -11,9 +11,9 @@ use Rattle.lxr_blocks.specs.States.{KeepsState, is_fixed, state_in, state_of, st
 use Rattle.lxr_model.specs.Moments.{Trace}
 use Rattle.lxr_invariant.specs.Lines.{ChosenNeedTrace, HasBlocks, NoneChosen, tracing_word, is_chosen}
 use Rattle.lxr_invariant.proofs.EntryLemmas.{changed_here, changed_other}
-use Rattle.lxr_evac_blocks.specs.Choosing.{AreChosen, is_sparse, sparse_before, with_choice}
+use Rattle.lxr_evac_blocks.specs.Choosing.{AreChosen, sparse_before, with_choice}
 use Rattle.lxr_evac_blocks.specs.Releasing.{AreReleased, with_releases}
-use Rattle.lxr_evac_blocks.proofs.ChosenLemmas.{choice_is_of_the_first}
+use Rattle.lxr_evac_blocks.proofs.ChosenLemmas.{chosen_go_first}
 use Rattle.lxr_evac_blocks.proofs.ReleaseLemmas.{releases_leave_none}
 use Rattle.lxr_blocks.specs.Swept.{with_states_by_lines}
 use Rattle.lxr_one_pause.specs.Relocating.{ChoosesBlocks}
@@ -38,22 +38,21 @@ chosen_alike t u b same is = sym (ap (λ f. state_of (f b)) same) ∙ is
 
 -- ---- sparse blocks
 
--- whatever the states of blocks, as many of the first are sparse
-pub sparse_same : (t : Tables) (states cursors : ℕ → ℕ) (b : ℕ) → sparse_before (record t { states = states; cursors = cursors }) b ≡ sparse_before t b
+-- whatever the states of blocks, as many sparse ones go before a block
+sparse_same : (blocks : ℕ) (t : Tables) (states cursors : ℕ → ℕ) (b : ℕ) → sparse_before blocks (record t { states = states; cursors = cursors }) b ≡ sparse_before blocks t b
 unfolding sparse_before
-sparse_same t states cursors zero = refl
-sparse_same t states cursors (suc b) = ap (λ n. n + cond (is_sparse t b) 1 0) (sparse_same t states cursors b)
+sparse_same blocks t states cursors b = refl
 
 -- a sweep leaves the same blocks Chosen
-pub chooses_swept : (k : Kind) (t u : Tables) (blocks : ℕ) → ChoosesBlocks k t u blocks → ChoosesBlocks k t (with_states_by_lines u blocks) blocks
-chooses_swept kind.Plain t u blocks is = λ b. ((λ c. (is b).0 (was_chosen u blocks b c)), (λ c. stays_chosen u blocks b ((is b).1 c)))
-chooses_swept kind.Begin t u blocks is = λ b within.
-    let same = sparse_same u (with_states_by_lines u blocks).states u.cursors b in (
-      λ c. let a = (is b within).0 (was_chosen u blocks b c) in (a.0, subst (λ n. n < most_chosen blocks) (sym same) a.1),
-      λ a. stays_chosen u blocks b ((is b within).1 (a.0, subst (λ n. n < most_chosen blocks) same a.1)),
+pub chooses_swept : (k : Kind) (t u : Tables) (l : Limits) → ChoosesBlocks k t u l → ChoosesBlocks k t (with_states_by_lines u l.blocks) l
+chooses_swept kind.Plain t u l is = λ b. ((λ c. (is b).0 (was_chosen u l.blocks b c)), (λ c. stays_chosen u l.blocks b ((is b).1 c)))
+chooses_swept kind.Begin t u l is = λ b within.
+    let same = sparse_same l.blocks u (with_states_by_lines u l.blocks).states u.cursors b in (
+      λ c. let a = (is b within).0 (was_chosen u l.blocks b c) in (a.0, subst (λ n. n < l.evacuate) (sym same) a.1),
+      λ a. stays_chosen u l.blocks b ((is b within).1 (a.0, subst (λ n. n < l.evacuate) same a.1)),
     )
-chooses_swept (kind.End j) t u blocks is = as_many_chosen u blocks ∙ is
-chooses_swept kind.Collect t u blocks is = as_many_chosen u blocks ∙ is
+chooses_swept (kind.End j) t u l is = as_many_chosen u l.blocks ∙ is
+chooses_swept kind.Collect t u l is = as_many_chosen u l.blocks ∙ is
 
 -- ---- a trace begins
 
@@ -62,20 +61,20 @@ needs_none t blocks None none = none
 needs_none t blocks (Some trace) none = tt
 
 -- blocks are as they are asked for with another trace, where no block is Chosen
-pub blocks_set : (t : Tables) (blocks word : ℕ) (was trace : Option Trace) → tracing_word trace ≡ word → NoneChosen t blocks → HasBlocks t blocks was
-    → HasBlocks (record t { cursors = changed t.cursors TRACING_WORD word }) blocks trace
-blocks_set t blocks word was trace tells none is = record {
+pub blocks_set : (t : Tables) (l : Limits) (word : ℕ) (was trace : Option Trace) → tracing_word trace ≡ word → NoneChosen t l.blocks → HasBlocks t l was
+    → HasBlocks (record t { cursors = changed t.cursors TRACING_WORD word }) l trace
+blocks_set t l word was trace tells none is = record {
   world = is.world;
   others = is.others;
   few = is.few;
-  chosen = needs_none (record t { cursors = changed t.cursors TRACING_WORD word }) blocks trace none;
+  chosen = needs_none (record t { cursors = changed t.cursors TRACING_WORD word }) l.blocks trace none;
   tracing = changed_here t.cursors TRACING_WORD word TRACING_WORD refl ∙ sym tells;
 }
 
-module _ (t : Tables) (blocks : ℕ) where
+module _ (t : Tables) (l : Limits) where
   -- the tables once blocks were swept and chosen, and the trace is set
   abbrev chosen_anew : Tables
-  chosen_anew = with_choice (with_states_by_lines t blocks) blocks
+  chosen_anew = with_choice l (with_states_by_lines t l.blocks)
 
   abbrev pub begun_anew : Tables
   begun_anew = record chosen_anew { cursors = changed chosen_anew.cursors TRACING_WORD 1 }
@@ -86,11 +85,11 @@ module _ (t : Tables) (blocks : ℕ) where
   pub none_remembered : begun_anew.cursors REMEMBERED_CURSOR ≡ 0
   none_remembered = changed_other chosen_anew.cursors TRACING_WORD 1 REMEMBERED_CURSOR (λ e. cc) ∙ changed_here t.cursors REMEMBERED_CURSOR 0 REMEMBERED_CURSOR refl
 
-  module _ (is : HasBlocks t blocks None) where
-    are_chosen : AreChosen (with_states_by_lines t blocks) chosen_anew blocks
-    are_chosen = choice_is_of_the_first (with_states_by_lines t blocks) blocks None (swept_blocks t blocks None is) (as_many_chosen t blocks ∙ is.chosen) (swept_states t blocks)
+  module _ (is : HasBlocks t l None) where
+    are_chosen : AreChosen l (with_states_by_lines t l.blocks) chosen_anew
+    are_chosen = chosen_go_first l (with_states_by_lines t l.blocks) None (swept_blocks t l None is) (as_many_chosen t l.blocks ∙ is.chosen) (swept_states t l.blocks)
 
-    pub begun_blocks : (trace : Trace) → HasBlocks begun_anew blocks (Some trace)
+    pub begun_blocks : (trace : Trace) → HasBlocks begun_anew l (Some trace)
     begun_blocks trace = record {
       world = are_chosen.world;
       others = are_chosen.lone;
@@ -101,15 +100,16 @@ module _ (t : Tables) (blocks : ℕ) where
 
     -- a block that is Free then was so, or is by its lines
     pub begun_free : (b : ℕ) → state_in begun_anew b ≡ Free → (state_in t b ≡ Free) ⊎ (state_by_lines t b ≡ Free)
-    begun_free b free = swept_free t blocks b (sym (ap state_of (are_chosen.others b (λ c. let no : Free ≡ Chosen = sym free ∙ c in cc))) ∙ free)
+    begun_free b free = swept_free t l.blocks b (sym (ap state_of (are_chosen.others b (λ c. let no : Free ≡ Chosen = sym free ∙ c in cc))) ∙ free)
 
-    -- exactly the first sparse ones are Chosen
-    pub begun_chosen : (before : Tables) → ChoosesBlocks kind.Begin before begun_anew blocks
+    -- exactly those sparse ones are Chosen that go first
+    pub begun_chosen : (before : Tables) → ChoosesBlocks kind.Begin before begun_anew l
     begun_chosen before b within =
         let exactly = are_chosen.exactly b within in
-        let same : sparse_before begun_anew b ≡ sparse_before (with_states_by_lines t blocks) b = sparse_same (with_states_by_lines t blocks) begun_anew.states begun_anew.cursors b in (
-          λ c. let a = exactly.0 c in (a.0, subst (λ n. n < most_chosen blocks) (sym same) a.1),
-          λ a. exactly.1 (a.0, subst (λ n. n < most_chosen blocks) same a.1),
+        let same : sparse_before l.blocks begun_anew b ≡ sparse_before l.blocks (with_states_by_lines t l.blocks) b =
+        sparse_same l.blocks (with_states_by_lines t l.blocks) begun_anew.states begun_anew.cursors b in (
+          λ c. let a = exactly.0 c in (a.0, subst (λ n. n < l.evacuate) (sym same) a.1),
+          λ a. exactly.1 (a.0, subst (λ n. n < l.evacuate) same a.1),
         )
 
 -- ---- blocks are released
@@ -153,11 +153,13 @@ module _ (t : Tables) (blocks : ℕ) where
     ]
   ]
 
-  pub released_blocks : (trace : Option Trace) → HasBlocks t blocks trace → HasBlocks released blocks trace
-  released_blocks trace is = record {
-    world = ap state_of (are_released.others 0 (λ c. let e = sym is.world ∙ c in cc)) ∙ is.world;
-    others = λ b from within. released_world b within (is.others b from within);
-    few = subst (λ n. n ≤ most_chosen blocks) (sym are_released.none) (omega arith);
-    chosen = needs_none released blocks trace are_released.none;
-    tracing = is.tracing;
-  }
+pub released_blocks : (t : Tables) (l : Limits) (trace : Option Trace) → HasBlocks t l trace → HasBlocks (released t l.blocks) l trace
+released_blocks t l trace is =
+    let are = are_released t l.blocks in
+    record {
+      world = ap state_of (are.others 0 (λ c. let e = sym is.world ∙ c in cc)) ∙ is.world;
+      others = λ b from within. released_world t l.blocks b within (is.others b from within);
+      few = subst (λ n. n ≤ l.evacuate) (sym are.none) (omega arith);
+      chosen = needs_none (released t l.blocks) l.blocks trace are.none;
+      tracing = is.tracing;
+    }

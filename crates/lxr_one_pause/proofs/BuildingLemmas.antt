@@ -76,7 +76,7 @@ module _ (s k : Space) (g : AbstractState) (can : CanPause s g) (at' : Name → 
     settled = record { same = refl; none_made = refl; none_written = refl };
     undecremented = counts.undecremented;
     traced = counts.traced;
-    remembers = can_remember k.limits (tables_of k) [] now now.moment.trace counts.holds.space.limits.blocks.1
+    remembers = can_remember k.limits (tables_of k) [] now now.moment.trace counts.holds.space.limits
         (let few = can.counted.0 in let same = can.safepoint.numbers.pauses in omega (arith, few, same)) counts.traced;
     objects = objects_on m (report_of k.report) now.moment can.safepoint.holds.follows refl m.trace can.objects;
     no_logs = counts.no_logs;
@@ -221,7 +221,7 @@ module _ (s k : Space) (g : AbstractState) (can : CanPause s g) (at' : Name → 
           pub lists : KeepsThroughPause (tables_of k) (tables_of x)
           pub remembered : LeavesRemembered is (tables_of s) (tables_of x) s.limits.blocks
           pub draws : DrawsByKind is s g parts (report_of report) ((tables_of s).cursors REMEMBERED_CURSOR) ((tables_of x).cursors REMEMBERED_CURSOR)
-          pub chosen : ChoosesBlocks is (tables_of s) (tables_of x) s.limits.blocks
+          pub chosen : ChoosesBlocks is (tables_of s) (tables_of x) s.limits
           pub traces : Traces is m.trace s x g to (report_of report) leads.unreclaimed
           pub tally : x.tally ≡ record s.tally { moved = s.tally.moved + length moved; kept = s.tally.kept + length unmoved }
 
@@ -252,7 +252,7 @@ module _ (s k : Space) (g : AbstractState) (can : CanPause s g) (at' : Name → 
             };
             draws = subst (λ r. DrawsByKind r.kind s g parts (report_of r) ((tables_of s).cursors REMEMBERED_CURSOR) ((tables_of x).cursors REMEMBERED_CURSOR)) (sym same_report) ends.draws;
             remembered = subst (λ r. LeavesRemembered r.kind (tables_of s) (tables_of x) s.limits.blocks) (sym same_report) ends.remembered;
-            chosen = subst (λ r. ChoosesBlocks r.kind (tables_of s) (tables_of x) s.limits.blocks) (sym same_report) ends.chosen;
+            chosen = subst (λ r. ChoosesBlocks r.kind (tables_of s) (tables_of x) s.limits) (sym same_report) ends.chosen;
             traces = subst (λ r. Traces r.kind m.trace s x g to (report_of r) (settled_by m parts r).unreclaimed) (sym same_report) ends.traces;
             tally = ends.tally;
             space =
@@ -296,7 +296,7 @@ module _ (s k : Space) (g : AbstractState) (can : CanPause s g) (at' : Name → 
           pub keeps : KeepsThroughTracing (tables_of k) (tables_of x)
           pub remembered : LeavesRemembered is (tables_of s) (tables_of x) s.limits.blocks
           pub draws : DrawsByKind is s g parts (report_of report) ((tables_of s).cursors REMEMBERED_CURSOR) ((tables_of x).cursors REMEMBERED_CURSOR)
-          pub chosen : ChoosesBlocks is (tables_of s) (tables_of x) s.limits.blocks
+          pub chosen : ChoosesBlocks is (tables_of s) (tables_of x) s.limits
           pub traces : Traces is m.trace s x g at' (report_of report) leads.unreclaimed
 
         module _ (ends : HasEndedThere) where

@@ -137,7 +137,7 @@ module _ (s : Space) (words : List ℕ) (began : Option ℕ) (m : Moment) (numbe
     pub size_reworded : IsSpace s → IsSpace reworded
     size_reworded space = record { limits = space.limits; size = ap (λ z. z.size) agree.tables ∙ space.size }
 
-    pub holds_reworded : m.made ≡ [] → IsRest reworded → HasBlocks (tables_of reworded) s.limits.blocks trace → FreeAreUnused (tables_of reworded) at m.unreclaimed → HoldsMoment s m at → HoldsMoment reworded then at
+    pub holds_reworded : m.made ≡ [] → IsRest reworded → HasBlocks (tables_of reworded) s.limits trace → FreeAreUnused (tables_of reworded) at m.unreclaimed → HoldsMoment s m at → HoldsMoment reworded then at
     holds_reworded none_made rest blocks unused h = record {
       space = size_reworded h.space;
       room = record { registers = h.room.registers; deferred = h.room.deferred; logged = h.room.logged; work = h.room.work; report = h.room.report };
@@ -171,7 +171,7 @@ module _ (s : Space) (words : List ℕ) (began : Option ℕ) (m : Moment) (numbe
 -- ---- spaces whose words stay
 
 pub holds_renumbered : (s : Space) (m : Moment) (number : ℕ) (stuck : List Name) (trace : Option Trace) (at : Name → ℕ) → ((n : Name) → has stuck n ≡ has m.stuck n)
-    → m.made ≡ [] → HasBlocks (tables_of s) s.limits.blocks trace → HoldsMoment s m at → HoldsMoment s (renumbered m number stuck trace) at
+    → m.made ≡ [] → HasBlocks (tables_of s) s.limits trace → HoldsMoment s m at → HoldsMoment s (renumbered m number stuck trace) at
 holds_renumbered s m number stuck trace at same none_made blocks h =
     holds_reworded s s.words s.trace m number stuck trace at
     (record { states = (tables_of s).states; cursors = (tables_of s).cursors; tables = refl; drawn = refl; waiting = refl }) same none_made h.rest.rest blocks h.unused h
@@ -190,10 +190,10 @@ module _ (c x : Space) (began : Option ℕ) (is : IsReworded c x began) where
   agree_there : AgreesApartFromBlocks (tables_of c) (tables_of there)
   agree_there = subst (λ y. AgreesApartFromBlocks (tables_of c) (tables_of y)) is.same is.agree
 
-  pub holds_then : (m : Moment) (trace : Option Trace) (at : Name → ℕ) → m.made ≡ [] → IsRest x → HasBlocks (tables_of x) c.limits.blocks trace → FreeAreUnused (tables_of x) at m.unreclaimed → HoldsMoment c m at
+  pub holds_then : (m : Moment) (trace : Option Trace) (at : Name → ℕ) → m.made ≡ [] → IsRest x → HasBlocks (tables_of x) c.limits trace → FreeAreUnused (tables_of x) at m.unreclaimed → HoldsMoment c m at
       → HoldsMoment x (record m { trace = trace }) at
   holds_then m trace at none_made rest blocks unused h = subst (λ y. HoldsMoment y (record m { trace = trace }) at) (sym is.same)
-      (holds_reworded c x.words began m m.number m.stuck trace at agree_there (λ n. refl) none_made (subst IsRest is.same rest) (subst (λ y. HasBlocks (tables_of y) c.limits.blocks trace) is.same blocks) (subst (λ y. FreeAreUnused (tables_of y) at m.unreclaimed) is.same unused) h)
+      (holds_reworded c x.words began m m.number m.stuck trace at agree_there (λ n. refl) none_made (subst IsRest is.same rest) (subst (λ y. HasBlocks (tables_of y) c.limits trace) is.same blocks) (subst (λ y. FreeAreUnused (tables_of y) at m.unreclaimed) is.same unused) h)
 
   pub rest_then : ((b : ℕ) → state_in (tables_of x) b ≡ Chosen → state_in (tables_of c) b ≡ Chosen) → IsRest c → IsRest x
   rest_then chosen rest = subst IsRest (sym is.same)

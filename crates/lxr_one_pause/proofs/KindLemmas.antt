@@ -241,32 +241,32 @@ module _ (s k : Space) (g : AbstractState) (can : CanPause s g) (at' : Name → 
     pub begin_is : x ≡ record k { words = x.words; report = begin_report; trace = x.trace }
     begin_is = begun_is ∙ (λ i. record k { words = x.words; report = begin_report; trace = sym (ap (λ (y : Space). y.trace) begun_is) i })
 
-    swept_blocks_are : begins.swept.limits.blocks ≡ begun.limits.blocks
-    swept_blocks_are = ap (λ (y : Space). y.limits.blocks) begins.sweeps.rest
+    swept_limits_are : begins.swept.limits ≡ begun.limits
+    swept_limits_are = ap (λ (y : Space). y.limits) begins.sweeps.rest
 
-    tables_are : tables_of x ≡ begun_anew (tables_of begun) begun.limits.blocks
+    tables_are : tables_of x ≡ begun_anew (tables_of begun) begun.limits
     tables_are =
         begins.sets.tables
         ∙ ap (λ (t : Tables). record t { cursors = changed t.cursors TRACING_WORD 1 })
-        (begins.chooses.tables ∙ ap (λ (t : Tables). with_choice t begins.swept.limits.blocks) begins.sweeps.tables ∙ ap (λ n. with_choice (with_states_by_lines (tables_of begun) begun.limits.blocks) n) swept_blocks_are)
+        (begins.chooses.tables ∙ ap (with_choice begins.swept.limits) begins.sweeps.tables ∙ ap (λ l. with_choice l (with_states_by_lines (tables_of begun) begun.limits.blocks)) swept_limits_are)
 
     is_reworded : IsReworded begun x began
     is_reworded = record {
       same = begun_then;
       agree = record {
-        states = (begun_anew (tables_of begun) begun.limits.blocks).states;
-        cursors = (begun_anew (tables_of begun) begun.limits.blocks).cursors;
+        states = (begun_anew (tables_of begun) begun.limits).states;
+        cursors = (begun_anew (tables_of begun) begun.limits).cursors;
         tables = tables_are;
-        drawn = begun_cursor (tables_of begun) begun.limits.blocks DECREMENT_CURSOR (λ e. cc) (λ e. cc);
-        waiting = begun_cursor (tables_of begun) begun.limits.blocks DECREMENT_COUNT (λ e. cc) (λ e. cc);
+        drawn = begun_cursor (tables_of begun) begun.limits DECREMENT_CURSOR (λ e. cc) (λ e. cc);
+        waiting = begun_cursor (tables_of begun) begun.limits DECREMENT_COUNT (λ e. cc) (λ e. cc);
       };
     }
 
-    begin_blocks : begun.limits.blocks ≡ s.limits.blocks
-    begin_blocks = ap (λ (y : Space). y.limits.blocks) begins.begins.space ∙ ap (λ (y : Space). y.limits.blocks) begins.finishes.space ∙ ap (λ (y : Space). y.limits.blocks) counts.space
+    begin_limits : begun.limits ≡ s.limits
+    begin_limits = ap (λ (y : Space). y.limits) begins.begins.space ∙ ap (λ (y : Space). y.limits) begins.finishes.space ∙ ap (λ (y : Space). y.limits) counts.space
 
-    blocks_begun : HasBlocks (tables_of begun) begun.limits.blocks None
-    blocks_begun = subst (HasBlocks (tables_of begun) begun.limits.blocks) may.none_runs begins.begins.holds.blocks
+    blocks_begun : HasBlocks (tables_of begun) begun.limits None
+    blocks_begun = subst (HasBlocks (tables_of begun) begun.limits) may.none_runs begins.begins.holds.blocks
 
     begin_keeps : KeepsThroughTracing (tables_of k) (tables_of x)
     begin_keeps =
@@ -279,7 +279,7 @@ module _ (s k : Space) (g : AbstractState) (can : CanPause s g) (at' : Name → 
           lists = record {
             runs = ap (λ (z : Tables). z.runs) tables_are;
             frees = ap (λ (z : Tables). z.frees) tables_are;
-            cursors = λ j a b c d. ap (λ (z : Tables). z.cursors j) tables_are ∙ begun_cursor (tables_of begun) begun.limits.blocks j c d;
+            cursors = λ j a b c d. ap (λ (z : Tables). z.cursors j) tables_are ∙ begun_cursor (tables_of begun) begun.limits j c d;
           };
         }))
 
@@ -323,17 +323,17 @@ module _ (s k : Space) (g : AbstractState) (can : CanPause s g) (at' : Name → 
 
     begin_holds : HoldsMoment x (record left { trace = Some fresh }) at'
     begin_holds = holds_then begun x began is_reworded left (Some fresh) at' refl (inl begin_rest)
-        (subst (λ t. HasBlocks t begun.limits.blocks (Some fresh)) (sym tables_are) (begun_blocks (tables_of begun) begun.limits.blocks blocks_begun fresh))
+        (subst (λ t. HasBlocks t begun.limits (Some fresh)) (sym tables_are) (begun_blocks (tables_of begun) begun.limits blocks_begun fresh))
         (subst (λ t. FreeAreUnused t at' left.unreclaimed) (sym tables_are)
-        (unused_by_lines (tables_of begun) (begun_anew (tables_of begun) begun.limits.blocks) at' left.unreclaimed refl (begun_free (tables_of begun) begun.limits.blocks blocks_begun) begun_undecremented.positive begins.begins.holds.unused))
+        (unused_by_lines (tables_of begun) (begun_anew (tables_of begun) begun.limits) at' left.unreclaimed refl (begun_free (tables_of begun) begun.limits blocks_begun) begun_undecremented.positive begins.begins.holds.unused))
         begins.begins.holds
 
     begin_traced : TraceHolds x.limits (tables_of x) [] (at_moment (standing g at') (record left { trace = Some fresh })) fresh
     begin_traced =
-        let after : Tables = begun_anew (tables_of begun) begun.limits.blocks in
+        let after : Tables = begun_anew (tables_of begun) begun.limits in
         let holds = beginning begins.found begun after left at' g.reported k.report.number
         (settled_left (with_kind s k g can at' gone counts kind.Begin) (now s k g can at' gone counts kind.Begin) may.drains begins.found second begins.finishes)
-        begins.finishes.undecremented none_left_dead begins.begins refl (none_remembered (tables_of begun) begun.limits.blocks) in
+        begins.finishes.undecremented none_left_dead begins.begins refl (none_remembered (tables_of begun) begun.limits) in
         subst (λ t. TraceHolds x.limits t [] (at_moment (standing g at') (record left { trace = Some fresh })) fresh) (sym tables_are)
         (subst (λ l. TraceHolds l after [] (at_moment (standing g at') (record left { trace = Some fresh })) fresh) (sym (ap (λ (y : Space). y.limits) begun_then))
         (trace_still begun.limits after after.states after.cursors [] (record { moment = left; at = at'; reported = g.reported })
@@ -358,13 +358,13 @@ module _ (s k : Space) (g : AbstractState) (can : CanPause s g) (at' : Name → 
       trace = ap (λ (y : Space). y.trace) begun_is;
       queues = tt;
       drained = ap (λ (t : Tables). t.cursors DECREMENT_COUNT) tables_are
-          ∙ begun_cursor (tables_of begun) begun.limits.blocks DECREMENT_COUNT (λ e. cc) (λ e. cc)
+          ∙ begun_cursor (tables_of begun) begun.limits DECREMENT_COUNT (λ e. cc) (λ e. cc)
           ∙ ap (λ (t : Tables). t.cursors DECREMENT_COUNT) begins.begins.tables
           ∙ begins.finishes.empty;
       keeps = begin_keeps;
-      remembered = ap (λ (t : Tables). t.cursors REMEMBERED_CURSOR) tables_are ∙ none_remembered (tables_of begun) begun.limits.blocks;
-      draws = ap (λ (t : Tables). t.cursors REMEMBERED_CURSOR) tables_are ∙ none_remembered (tables_of begun) begun.limits.blocks;
-      chosen = subst (λ t. ChoosesBlocks kind.Begin (tables_of s) t s.limits.blocks) (sym tables_are)
-          (subst (λ n. ChoosesBlocks kind.Begin (tables_of s) (begun_anew (tables_of begun) begun.limits.blocks) n) begin_blocks (begun_chosen (tables_of begun) begun.limits.blocks blocks_begun (tables_of s)));
+      remembered = ap (λ (t : Tables). t.cursors REMEMBERED_CURSOR) tables_are ∙ none_remembered (tables_of begun) begun.limits;
+      draws = ap (λ (t : Tables). t.cursors REMEMBERED_CURSOR) tables_are ∙ none_remembered (tables_of begun) begun.limits;
+      chosen = subst (λ t. ChoosesBlocks kind.Begin (tables_of s) t s.limits) (sym tables_are)
+          (subst (ChoosesBlocks kind.Begin (tables_of s) (begun_anew (tables_of begun) begun.limits)) begin_limits (begun_chosen (tables_of begun) begun.limits blocks_begun (tables_of s)));
       traces = begin_traces;
     })

@@ -514,9 +514,9 @@ module _ (s k : Space) (g : AbstractState) (can : CanPause s g) (at' : Name → 
 
   end_holds : HoldsMoment x lead to
   end_holds = holds_then tallied x None is_reworded last None to refl (rest_then tallied x None is_reworded chosen_was tallied_holds.rest.rest)
-      (subst (λ t. HasBlocks t ends.evacuated.limits.blocks None) (sym tables_ended)
-      (blocks_set (with_releases te ends.evacuated.limits.blocks) ends.evacuated.limits.blocks 0 last.trace None refl (none_released te ends.evacuated.limits.blocks)
-      (released_blocks te ends.evacuated.limits.blocks last.trace moves.holds.blocks)))
+      (subst (λ t. HasBlocks t ends.evacuated.limits None) (sym tables_ended)
+      (blocks_set (with_releases te ends.evacuated.limits.blocks) ends.evacuated.limits 0 last.trace None refl (none_released te ends.evacuated.limits.blocks)
+      (released_blocks te ends.evacuated.limits last.trace moves.holds.blocks)))
       (subst (λ t. FreeAreUnused t to last.unreclaimed) (sym tables_ended)
       (unused_by_lines te (record (with_releases te ends.evacuated.limits.blocks) { cursors = changed te.cursors TRACING_WORD 0 }) to last.unreclaimed refl (released_free te ends.evacuated.limits.blocks)
       moves.undecremented.positive moves.holds.unused))

@@ -105,7 +105,7 @@ module _ (s x : Space) (g : AbstractState) (asked : Ask) (pace : Pace) (can : Ca
   holds_swept : HoldsMoment swept leads at'
   holds_swept = holds_reworded x words x.trace leads leads.number leads.stuck leads.trace at' agree (λ n. refl) refl
       (rest_reworded x words x.trace agree (λ b e. was_chosen t x.limits.blocks b (subst (λ z. state_in z b ≡ Chosen) tables e)) settles.holds.rest.rest)
-      (subst (λ z. HasBlocks z x.limits.blocks leads.trace) (sym tables) (swept_blocks t x.limits.blocks leads.trace settles.holds.blocks))
+      (subst (λ z. HasBlocks z x.limits leads.trace) (sym tables) (swept_blocks t x.limits leads.trace settles.holds.blocks))
       (subst (λ z. FreeAreUnused z at' leads.unreclaimed) (sym tables)
       (unused_by_lines t (with_states_by_lines t x.limits.blocks) at' leads.unreclaimed refl (swept_free t x.limits.blocks) settles.undecremented.positive settles.holds.unused)) settles.holds
 
@@ -220,9 +220,9 @@ module _ (s x : Space) (g : AbstractState) (asked : Ask) (pace : Pace) (can : Ca
     outs : (line : ℕ) → IsTrue ((tables_of at_end).outs line) ↔ HasCopy m.state.graph g.at at' moved line
     outs line = ((λ out. (settles.outs line).0 (sym (ap (λ z. z.outs line) tables) ∙ out)), (λ copy. ap (λ z. z.outs line) tables ∙ (settles.outs line).1 copy))
 
-    chosen : ChoosesBlocks r.kind (tables_of s) (tables_of at_end) s.limits.blocks
-    chosen = subst (λ z. ChoosesBlocks r.kind (tables_of s) z s.limits.blocks) (sym tables)
-        (subst (λ n. ChoosesBlocks r.kind (tables_of s) (with_states_by_lines t n) s.limits.blocks) (sym same_blocks) (chooses_swept r.kind (tables_of s) t s.limits.blocks settles.chosen))
+    chosen : ChoosesBlocks r.kind (tables_of s) (tables_of at_end) s.limits
+    chosen = subst (λ z. ChoosesBlocks r.kind (tables_of s) z s.limits) (sym tables)
+        (subst (λ n. ChoosesBlocks r.kind (tables_of s) (with_states_by_lines t n) s.limits) (sym same_blocks) (chooses_swept r.kind (tables_of s) t s.limits settles.chosen))
 
     moved_stays : (n : Name) → IsTrue (has moved n) → IsTrue (has leads.unreclaimed n)
     moved_stays n h = ((settles.evacuates.moved_are.members n).0 h).0.stays
@@ -232,7 +232,7 @@ module _ (s x : Space) (g : AbstractState) (asked : Ask) (pace : Pace) (can : Ca
     out_outside line out =
         let copy = (outs line).0 out in
         let ends = ((settles.evacuates.moved_are.members copy.name).0 copy.promoted_is).0.ends in
-        let none : NoneChosen (tables_of at_end) s.limits.blocks = subst (λ k. ChoosesBlocks k (tables_of s) (tables_of at_end) s.limits.blocks) ends.1 chosen in
+        let none : NoneChosen (tables_of at_end) s.limits.blocks = subst (λ k. ChoosesBlocks k (tables_of s) (tables_of at_end) s.limits) ends.1 chosen in
         let there = settles.holds.image.image.stands copy.name (in_first leads.unreclaimed [] copy.name (moved_stays copy.name copy.promoted_is)) in
         let same = same_object m.state.graph copy.name there.0 copy.object there.1 copy.covers.object in
         let fits : granule_of (at' copy.name) + granules_of copy.object ≤ GRANULES_IN_BLOCK * s.limits.blocks =

@@ -5,8 +5,9 @@ use Rattle.std.proofs.lemmas.Bool.Decides.{eqb_tells}
 use Rattle.lxr_layout.specs.declared.limits.Limits.{Limits}
 use Rattle.lxr_layout.specs.declared.Name.{Name}
 use Rattle.lxr_layout.specs.declared.LogEntry.{LogEntry}
-use Rattle.lxr_layout.specs.declared.TheConstants.{DECREMENT_COUNT, DECREMENT_CURSOR, MOST_BLOCKS, MOST_WORDS, REMEMBERED_CURSOR, WORDS_IN_LINE}
+use Rattle.lxr_layout.specs.declared.TheConstants.{DECREMENT_COUNT, DECREMENT_CURSOR, MOST_WORDS, REMEMBERED_CURSOR, WORDS_IN_LINE}
 use Rattle.lxr_layout.specs.Runs.{word_of_entry}
+use Rattle.lxr_layout.specs.Spaces.{AreLimits}
 use Rattle.lxr_image.specs.Tables.{Tables, changed}
 use Rattle.lxr_model.specs.Moments.{Trace, rememberable}
 use Rattle.lxr_invariant.specs.AbstractState.{AbstractState}
@@ -81,12 +82,12 @@ same_told t u (entries, cursor) = record { entries = entries; cursor = cursor }
 -- ---- what may be remembered
 
 -- while a trace goes on, what it has remembered is bounded by the number of pauses
-pub can_remember : (l : Limits) (t : Tables) (entries : List LogEntry) (g : AbstractState) (trace : Option Trace) → l.blocks ≤ MOST_BLOCKS → g.moment.number + 1 ≤ 2 ^ 32 → IsTracedBy l t entries g trace
+pub can_remember : (l : Limits) (t : Tables) (entries : List LogEntry) (g : AbstractState) (trace : Option Trace) → AreLimits l → g.moment.number + 1 ≤ 2 ^ 32 → IsTracedBy l t entries g trace
     → CanRemember trace t
-can_remember l t entries g None small few is = tt
-can_remember l t entries g (Some trace) small few is =
+can_remember l t entries g None limits few is = tt
+can_remember l t entries g (Some trace) limits few is =
     let bound = is.remembered.bound in
-    let most = parts_larger (most_remembered l.blocks) (2 * MOST_WORDS) (rememberable trace is.snapshot) g.moment.number is.few (most_any_heap l.blocks small) in
+    let most = parts_larger (most_remembered l) (2 * MOST_WORDS) (rememberable trace is.snapshot) g.moment.number is.few (most_any_heap l limits) in
     omega (arith, bound, most, few)
 
 -- ---- a remembered set that stays
@@ -110,6 +111,6 @@ module _ (l : Limits) (t u : Tables) (same : SameRemembered t u) where
     is.0,
     subst (λ z. is.0 < z) (sym same.cursor) is.1,
     is.2,
-    ap (λ f. f is.0) same.entries ∙ is.3 ∙ ap (λ f. word_of_entry (f (word_of_field at n i / WORDS_IN_LINE)) (place_of at n) i) (sym reuse),
+    ap (λ f. f is.0) same.entries ∙ is.3 ∙ ap (λ f. word_of_entry l.blocks (f (word_of_field at n i / WORDS_IN_LINE)) (place_of at n) i) (sym reuse),
   )
   remembered_still at n i reuse (inr over) = inr (overflowed_still over)

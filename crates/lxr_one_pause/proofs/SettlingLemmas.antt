@@ -3,6 +3,7 @@ use Rattle.std.proofs.Common.{◌≡◌, ℕ, ◌+◌, ◌*◌, ◌^◌, ◌≤�
 use Rattle.std.specs.Prelude.{◌↔◌, Option, Some, None}
 use Rattle.lxr_pause_queue.specs.OldValues.{decrement_list, dropped_values, first_entries, logged_values, old_values, without_nil}
 use Rattle.lxr_layout.specs.declared.TheConstants.{GRANULES_IN_BLOCK, REMEMBERED_CURSOR}
+use Rattle.lxr_layout.specs.declared.limits.Limits.{Limits}
 use Rattle.lxr_layout.specs.declared.Name.{Name}
 use Rattle.lxr_graph.specs.declared.report.Kind.TheVariants as kind
 use Rattle.lxr_graph.specs.Names.{has, without}
@@ -71,9 +72,9 @@ few_paused s g can =
     omega (arith, few, same)
 
 -- blocks stay as they are asked for where a trace goes on
-blocks_on : (t : Tables) (blocks : ℕ) (m : Moment) (r : PauseReport) (trace : Option Trace) → HasBlocks t blocks trace → HasBlocks t blocks (going_on m r trace)
-blocks_on t blocks m r None is = is
-blocks_on t blocks m r (Some trace) is = record { world = is.world; others = is.others; few = is.few; chosen = tt; tracing = is.tracing }
+blocks_on : (t : Tables) (l : Limits) (m : Moment) (r : PauseReport) (trace : Option Trace) → HasBlocks t l trace → HasBlocks t l (going_on m r trace)
+blocks_on t l m r None is = is
+blocks_on t l m r (Some trace) is = record { world = is.world; others = is.others; few = is.few; chosen = tt; tracing = is.tracing }
 
 module _ (s began : Space) (g : AbstractState) (can : CanPause s g) (begins : began ≡ with_report_begun s) where
   abbrev m : Moment
@@ -108,7 +109,7 @@ module _ (s began : Space) (g : AbstractState) (can : CanPause s g) (begins : be
       none_stuck = ap (λ (x : Space). x.report.stuck.items) finish.space ∙ ap (λ (x : Space). x.report.stuck.items) begins;
       remembers = remember_still (tables_of s) (tables_of finished) m.trace
           (finish.keeps.cursors REMEMBERED_CURSOR (λ e. cc) (λ e. cc) ∙ ap (λ (x : Space). (tables_of x).cursors REMEMBERED_CURSOR) begins)
-          (can_remember s.limits (tables_of s) s.logged.items g m.trace can.safepoint.holds.space.limits.blocks.1 (few_paused s g can) can.safepoint.traced);
+          (can_remember s.limits (tables_of s) s.logged.items g m.trace can.safepoint.holds.space.limits (few_paused s g can) can.safepoint.traced);
     }
 
     module _ (raised : Space) (raises : (m : Moment) (at : Name → ℕ) → CanRaise finished m at → (at' : Name → ℕ) × Raises finished raised m at at') where
@@ -167,7 +168,7 @@ module _ (s began : Space) (g : AbstractState) (can : CanPause s g) (begins : be
         holds_done : HoldsMoment (with_roots_deferred queued) done at'
         holds_done =
             holds_renumbered (with_roots_deferred queued) (settled left raised.report.promoted.items raised.report.stuck.items) done.number done.stuck done.trace at' (λ n. refl) refl
-            (blocks_on (tables_of queued) queued.limits.blocks m (report_of raised.report) m.trace queue.holds.blocks) queue.holds
+            (blocks_on (tables_of queued) queued.limits m (report_of raised.report) m.trace queue.holds.blocks) queue.holds
 
         undecremented_done : IsUndecremented (tables_of queued) done at'
         undecremented_done = undecremented_renumbered (settled left raised.report.promoted.items raised.report.stuck.items) done.number done.stuck done.trace (λ n. refl) (tables_of queued) at' queue.undecremented

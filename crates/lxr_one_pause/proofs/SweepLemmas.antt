@@ -4,7 +4,7 @@ use Rattle.std.specs.Prelude.{Option, ◌==◌}
 use Rattle.std.proofs.lemmas.Bool.Decides.{leb_tells}
 use Rattle.lxr_layout.specs.declared.Name.{Name}
 use Rattle.lxr_layout.specs.declared.TheConstants.{LINES_IN_BLOCK}
-use Rattle.lxr_layout.specs.Spaces.{most_chosen}
+use Rattle.lxr_layout.specs.declared.limits.Limits.{Limits}
 use Rattle.lxr_graph.specs.Names.{has}
 use Rattle.lxr_graph.specs.State.{Graph}
 use Rattle.lxr_image.specs.Tables.{Tables}
@@ -112,15 +112,6 @@ module _ (t : Tables) (blocks : ℕ) where
   pub swept_past : (b : ℕ) → blocks ≤ b → swept.states b ≡ t.states b
   swept_past b high = are_swept.past b high
 
-  pub swept_blocks : (trace : Option Trace) → HasBlocks t blocks trace → HasBlocks swept blocks trace
-  swept_blocks trace h = record {
-    world = are_swept.world 0 h.world;
-    others = λ b from within. world_same b within (h.others b from within);
-    few = subst (λ n. n ≤ most_chosen blocks) (sym as_many_chosen) h.few;
-    chosen = need_same t swept blocks trace as_many_chosen h.chosen;
-    tracing = h.tracing;
-  }
-
   pub swept_states : HasStates swept blocks
   swept_states b within free = elim (which_state (state_in t b)) [
     | inl c ↦ let is : is_fixed (state_in swept b) ≡ true = ap is_fixed (are_swept.chosen b c) in absurd (cc)
@@ -129,6 +120,15 @@ module _ (t : Tables) (blocks : ℕ) where
       | inr other ↦ are_swept.by_lines b within other.0 other.1
     ]
   ]
+
+pub swept_blocks : (t : Tables) (l : Limits) (trace : Option Trace) → HasBlocks t l trace → HasBlocks (swept t l.blocks) l trace
+swept_blocks t l trace is = record {
+  world = (are_swept t l.blocks).world 0 is.world;
+  others = λ b from within. world_same t l.blocks b within (is.others b from within);
+  few = subst (λ n. n ≤ l.evacuate) (sym (as_many_chosen t l.blocks)) is.few;
+  chosen = need_same t (swept t l.blocks) l.blocks trace (as_many_chosen t l.blocks) is.chosen;
+  tracing = is.tracing;
+}
 
 -- ---- lines
 

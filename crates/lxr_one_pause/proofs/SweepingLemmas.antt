@@ -223,7 +223,7 @@ module _ (s k : Space) (g : AbstractState) (can : CanPause s g) (at' : Name → 
 
   collect_holds : HoldsMoment x collect_lead at'
   collect_holds = holds_then cleared_there x None collect_reworded collect_last None at' refl (inl collect_rest)
-      (subst (λ t. HasBlocks t cleared_there.limits.blocks None) (sym collects.sets.tables) (blocks_set (tables_of cleared_there) cleared_there.limits.blocks 0 collect_last.trace None refl unchosen_then collects.sweeps.holds.blocks))
+      (subst (λ t. HasBlocks t cleared_there.limits None) (sym collects.sets.tables) (blocks_set (tables_of cleared_there) cleared_there.limits 0 collect_last.trace None refl unchosen_then collects.sweeps.holds.blocks))
       (subst (λ t. FreeAreUnused t at' collect_last.unreclaimed) (sym collects.sets.tables) (record { objects = collects.sweeps.holds.unused.objects; outs = collects.sweeps.holds.unused.outs }))
       collects.sweeps.holds
 

@@ -72,9 +72,7 @@ module _ (l : Limits) (t : Tables) (states cursors : ℕ → ℕ) (entries : Lis
     remembered : IsRememberedSoFar l u then g.at trace is.snapshot
     remembered = record {
       fields = λ n v i k scan e bit c. remembers n i (is.remembered.fields n v i k scan e bit (chosen (granule_of (g.at v) / GRANULES_IN_BLOCK) c));
-      entries = λ k drawn within.
-          let r = is.remembered.entries k (subst (λ z. k < z) cursor drawn) within in
-          (r.0, r.1, r.2, record { is = r.3.is; small = r.3.small; entry = r.3.entry; in_heap = r.3.in_heap });
+      entries = λ k drawn within. is.remembered.entries k (subst (λ z. k < z) cursor drawn) within;
       bound =
           let bound = is.remembered.bound in
           let fewer = fewer_later t u m then g.at g.at is.snapshot (λ n h unmarked. (h, unmarked, refl)) in
@@ -89,7 +87,7 @@ module _ (l : Limits) (t : Tables) (states cursors : ℕ → ℕ) (entries : Lis
       inside = inside;
       handled = is.handled;
       remembered = remembered;
-      few = parts_later (most_remembered l.blocks) (rememberable trace is.snapshot) g.moment.number number is.few later;
+      few = parts_later (most_remembered l) (rememberable trace is.snapshot) g.moment.number number is.few later;
     }
 
   pub traced_still : (trace : Option Trace) → IsTracedBy l t entries g trace → IsTracedBy l u entries abstract_then trace

@@ -142,7 +142,7 @@ module _ (s : Space) (g : AbstractState) (can : CanDrain s g) where
       can_trace_released = record {
         holds = holds_then found released found.trace is_released left left.trace g.at can.settled.none_made
             (rest_then found released found.trace is_released (λ b e. was_so (tables_of found) found.limits.blocks b (subst (λ t. state_in t b ≡ Chosen) releases.tables e)) finishes.holds.rest.rest)
-            (subst (λ t. HasBlocks t found.limits.blocks left.trace) (sym releases.tables) (released_blocks (tables_of found) found.limits.blocks left.trace finishes.holds.blocks))
+            (subst (λ t. HasBlocks t found.limits left.trace) (sym releases.tables) (released_blocks (tables_of found) found.limits left.trace finishes.holds.blocks))
             (subst (λ t. FreeAreUnused t g.at left.unreclaimed) (sym releases.tables)
             (unused_by_lines (tables_of found) (with_releases (tables_of found) found.limits.blocks) g.at left.unreclaimed refl (released_free (tables_of found) found.limits.blocks) finishes.undecremented.positive finishes.holds.unused))
             finishes.holds;

@@ -175,7 +175,7 @@ pub record Pauses (before after : Space) (g : AbstractState) (at' : Name → ℕ
   pub drained : IsDrained after (is_draining after.report.kind)
   pub outs : (line : ℕ) → IsTrue ((tables_of after).outs line) ↔ HasCopy g.moment.state.graph g.at at' moved line
   pub no_rest : moved ≡ [] → after.rest_next ≡ after.rest_end
-  pub chosen : ChoosesBlocks after.report.kind (tables_of before) (tables_of after) before.limits.blocks
+  pub chosen : ChoosesBlocks after.report.kind (tables_of before) (tables_of after) before.limits
   pub beyond : (b : ℕ) → before.limits.blocks ≤ b → (tables_of after).states b ≡ (tables_of before).states b
   pub traces : Traces after.report.kind g.moment.trace before after g at' (report_of after.report) (paused g at' (report_of after.report)).moment.unreclaimed
   pub space : after ≡ record before {

@@ -6,7 +6,7 @@ use Rattle.lxr_layout.specs.declared.TheConstants.{GRANULES_IN_BLOCK}
 use Rattle.lxr_layout.specs.declared.runs.Run.{Run}
 use Rattle.lxr_layout.specs.Objects.{line_count, moved_word}
 use Rattle.lxr_layout.specs.Places.{first_word}
-use Rattle.lxr_layout.specs.Spaces.{most_chosen}
+use Rattle.lxr_layout.specs.declared.limits.Limits.{Limits}
 use Rattle.lxr_graph.specs.declared.report.Kind.{Kind}
 use Rattle.lxr_graph.specs.declared.report.Kind.TheVariants as kind
 use Rattle.lxr_graph.specs.History.{report_of}
@@ -30,14 +30,14 @@ use Rattle.lxr_evac_moving.specs.Evacuation.{RefersToOne}
 
 -- ---- blocks
 
--- Which blocks are Chosen after a pause of a kind: after a plain one those that were; after one that begins a trace exactly the first blocks
--- behind the world's of which some lines and at most 32 aren't free, as many as may be Chosen in the heap, or all of them where there are fewer;
--- and none after one that ends a trace or collects.
-abbrev pub ChoosesBlocks : Kind → Tables → Tables → ℕ → Type 0
-ChoosesBlocks kind.Plain t u blocks = (b : ℕ) → (state_in u b ≡ Chosen) ↔ (state_in t b ≡ Chosen)
-ChoosesBlocks kind.Begin t u blocks = (b : ℕ) → b < blocks → (state_in u b ≡ Chosen) ↔ (IsTrue (is_sparse u b) × (sparse_before u b < most_chosen blocks))
-ChoosesBlocks (kind.End j) t u blocks = NoneChosen u blocks
-ChoosesBlocks kind.Collect t u blocks = NoneChosen u blocks
+-- Which blocks are Chosen after a pause of a kind: after a plain one those that were; after one that begins a trace, of the blocks after the
+-- world's of which some lines and at most 32 aren't free, exactly those before which fewer such go than may be Chosen; and none after one that
+-- ends a trace or collects.
+abbrev pub ChoosesBlocks : Kind → Tables → Tables → Limits → Type 0
+ChoosesBlocks kind.Plain t u l = (b : ℕ) → (state_in u b ≡ Chosen) ↔ (state_in t b ≡ Chosen)
+ChoosesBlocks kind.Begin t u l = (b : ℕ) → b < l.blocks → (state_in u b ≡ Chosen) ↔ (IsTrue (is_sparse u b) × (sparse_before l.blocks u b < l.evacuate))
+ChoosesBlocks (kind.End j) t u l = NoneChosen u l.blocks
+ChoosesBlocks kind.Collect t u l = NoneChosen u l.blocks
 
 -- ---- evacuation
 

@@ -184,7 +184,7 @@ pub record Settles (before after : Space) (g : AbstractState) (at' : Name → �
   pub keeps : KeepsThroughPause (tables_of before) (tables_of after)
   pub remembered : LeavesRemembered after.report.kind (tables_of before) (tables_of after) before.limits.blocks
   pub draws : DrawsByKind after.report.kind before g parts (report_of after.report) ((tables_of before).cursors REMEMBERED_CURSOR) ((tables_of after).cursors REMEMBERED_CURSOR)
-  pub chosen : ChoosesBlocks after.report.kind (tables_of before) (tables_of after) before.limits.blocks
+  pub chosen : ChoosesBlocks after.report.kind (tables_of before) (tables_of after) before.limits
   pub traces : Traces after.report.kind g.moment.trace before after g at' (report_of after.report) (settled_by g.moment parts after.report).unreclaimed
   pub tally : after.tally ≡ record before.tally { moved = before.tally.moved + length moved; kept = before.tally.kept + length kept }
   pub space : after ≡ record before {

@@ -74,7 +74,7 @@ pub record Begins (before after : Space) (g : AbstractState) : Type 0 where
   pub finishes : Finishes before found g.moment g.at gone
   pub begins : BeginsTrace found begun (drained g gone) g.at
   pub sweeps : Turns begun swept (with_states_by_lines (tables_of begun) begun.limits.blocks)
-  pub chooses : Turns swept chosen (with_choice (tables_of swept) swept.limits.blocks)
+  pub chooses : Turns swept chosen (with_choice swept.limits (tables_of swept))
   pub sets : SetsTrace chosen after (Some before.report.number)
 
 -- A trace has ended, and what it didn't mark is swept. What was left in Chosen blocks is moved away, and they are released.

@@ -231,7 +231,7 @@ holds_left s after m at gone can fin leaves =
       lines = out_still t u m.state.graph at m.made stay.outs b.lines;
       unchosen = unchosen_still t u at m.made stay.states b.unchosen;
       unused = unused_still t u at m.unreclaimed vs stay.states stay.outs within b.unused;
-      blocks = subst (λ l. HasBlocks u l.blocks m.trace) (sym limits) (blocks_still t u s.limits.blocks m.trace stay.states (stay.keeps.cursors TRACING_WORD (λ e. omega arith) (λ e. omega arith)) b.blocks);
+      blocks = subst (λ l. HasBlocks u l m.trace) (sym limits) (blocks_still t u s.limits m.trace stay.states (stay.keeps.cursors TRACING_WORD (λ e. omega arith) (λ e. omega arith)) b.blocks);
       rest = rest_left s after m at vs within (ap (λ z. z.rest_next) same) (ap (λ z. z.rest_end) same) limits stay.outs stay.states b.rest;
       no_work = is.work;
     }

@@ -421,7 +421,7 @@ list_fits s st at =
     let b = at.space.limits.log in
     (f, small s.limits.threads s.limits.log ((tables_of s).cursors DECREMENT_COUNT) a.1 b.1 f)
   where
-    small : (x y n : ℕ) → x ≤ 16 → y ≤ 65536 → n ≤ x * (y + 16) → n < 2 ^ 32
+    small : (x y n : ℕ) → x ≤ 255 → y ≤ 65536 → n ≤ x * (y + 16) → n < 2 ^ 32
     small x y n hx hy h = grind arith
 
 pub taken_leaves : (s now : Space) (n : ℕ) → Turns s now (with_length (tables_of s) n) → Leaves s now

@@ -3,6 +3,7 @@ use Rattle.std.proofs.Common.{◌≡◌, ◌≢◌, ℕ, ◌+◌, ◌*◌, ◌/�
 use Rattle.std.specs.Prelude.{Option, None, Some, slice_index_or}
 use Rattle.std.proofs.lemmas.Bool.Decides.{eqb_tells}
 use Rattle.std.proofs.lemmas.Option.{get_or_from_slice_get, slice_get-get_or}
+use Rattle.lxr_layout.specs.declared.limits.Limits.{Limits}
 use Rattle.lxr_layout.specs.declared.Name.{Name}
 use Rattle.lxr_layout.specs.declared.Place.{Place}
 use Rattle.lxr_layout.specs.declared.TheConstants.{GRANULES_IN_BLOCK, REMEMBERED_CURSOR, WORDS_IN_LINE}
@@ -24,7 +25,7 @@ use Rattle.lxr_invariant.specs.Lines.{is_chosen}
 use Rattle.lxr_invariant.specs.Raised.{with_promoted}
 use Rattle.lxr_invariant.specs.Standing.{place_of, word_of_field}
 use Rattle.lxr_invariant.specs.Tracing.{HasOverflowed, IsRemembered}
-use Rattle.lxr_invariant.proofs.BlockLemmas.{none_chosen, none_counted, small_where_chosen}
+use Rattle.lxr_invariant.proofs.BlockLemmas.{none_chosen, none_counted}
 use Rattle.lxr_invariant.proofs.EntryLemmas.{changed_here, changed_other}
 use Rattle.lxr_remset.specs.Remembering.{AreEntries, HasEntryAtNumber, HasEntryOf, IsField, KeepsSet, is_in_chosen, remembering, remembering_chosen}
 use Rattle.lxr_remset.proofs.ChosenLemmas.{chosen_told}
@@ -104,7 +105,7 @@ module _ (b : Space) (m : Moment) (at : Name → ℕ) (st : IncrementStage) (u :
   }
     where
       by : (trace : Option Trace) → m.trace ≡ trace → q.0 ≢ 0 → state_in (tables_of b) (granule_of q.0 / GRANULES_IN_BLOCK) ≡ Chosen → CanEnter trace (tables_of b) → (tables_of b).cursors REMEMBERED_CURSOR < 2 ^ 63
-      by None e some chosen can = absurd (none_chosen (tables_of b) b.limits.blocks m.trace (granule_of q.0 / GRANULES_IN_BLOCK) is.blocks e (block_within some) chosen)
+      by None e some chosen can = absurd (none_chosen (tables_of b) b.limits m.trace (granule_of q.0 / GRANULES_IN_BLOCK) is.blocks e (block_within some) chosen)
       by (Some trace) e some chosen can = can
 
   module _ (c : Space) (turns : Turns b c (remembering_held b.limits (tables_of b) p i q)) where
@@ -115,13 +116,11 @@ module _ (b : Space) (m : Moment) (at : Name → ℕ) (st : IncrementStage) (u :
     entry_tables e = turns.tables ∙ e ∙ ap (λ z. remembering b.limits (tables_of b) z i) here
 
     -- where it is remembered, so it is, and all that was
-    kept : q.0 ≢ 0 → is_in_chosen (tables_of b) q ≡ true → remembering_held b.limits (tables_of b) p i q ≡ remembering b.limits (tables_of b) p i
+    kept : remembering_held b.limits (tables_of b) p i q ≡ remembering b.limits (tables_of b) p i
         → KeepsSet b.limits (tables_of b) (tables_of c) st.now u i
-    kept some chosen e =
-        let block : ℕ = granule_of q.0 / GRANULES_IN_BLOCK in
-        let small = small_where_chosen (tables_of b) b.limits.blocks block is.blocks.few (block_within some) (chosen_told (state_in (tables_of b) block) chosen) in
+    kept e =
         subst (λ t. KeepsSet b.limits (tables_of b) t st.now u i) (sym (entry_tables e))
-        (remembering_keeps_set b.limits (tables_of b) st.now u i is.space.limits (record { counts = count_fits b.limits b.words; reuse = reuse_fits b.limits b.words }) small (subst (λ z. IsField b.limits z i) here field))
+        (remembering_keeps_set b.limits (tables_of b) st.now u i is.space.limits (record { counts = count_fits b.limits b.words; reuse = reuse_fits b.limits b.words }) (subst (λ z. IsField b.limits z i) here field))
 
     pub entered_changes : ChangesHeld b c
     entered_changes = record {
@@ -175,7 +174,8 @@ module _ (b : Space) (m : Moment) (at : Name → ℕ) (st : IncrementStage) (u :
           };
           entry = λ room. ap (λ t. t.remembered ((tables_of b).cursors REMEMBERED_CURSOR)) (entry_tables e)
               ∙ new_entry b.limits (tables_of b) (place_of st.now u) i (subst (λ l. (tables_of b).cursors REMEMBERED_CURSOR < l.remember) limits room)
-              ∙ ap (λ f. word_of_entry (f (word_of_field st.now u i / WORDS_IN_LINE)) (place_of st.now u) i) (sym entered_still.reuse);
+              ∙ ap (λ f. word_of_entry b.limits.blocks (f (word_of_field st.now u i / WORDS_IN_LINE)) (place_of st.now u) i) (sym entered_still.reuse)
+              ∙ ap (λ (l : Limits). word_of_entry l.blocks ((tables_of c).reuse (word_of_field st.now u i / WORDS_IN_LINE)) (place_of st.now u) i) (sym limits);
           cursor = entry_cursor e;
         }
 
@@ -186,7 +186,7 @@ module _ (b : Space) (m : Moment) (at : Name → ℕ) (st : IncrementStage) (u :
     ]
 
     entry_there : (k : ℕ) → q.0 ≢ 0 → is_in_chosen (tables_of b) q ≡ true → remembering_held b.limits (tables_of b) p i q ≡ remembering b.limits (tables_of b) p i
-        → k ≡ (tables_of b).cursors REMEMBERED_CURSOR → k < c.limits.remember → HasEntryOf (tables_of c) m st.now (WasRaised m st) k
+        → k ≡ (tables_of b).cursors REMEMBERED_CURSOR → k < c.limits.remember → HasEntryOf c.limits (tables_of c) m st.now (WasRaised m st) k
     entry_there k some chosen e new room =
         let draws = drawn_there (slice_index_or (references_at m u) i None) refl some chosen e in
         record {
@@ -217,7 +217,7 @@ module _ (b : Space) (m : Moment) (at : Name → ℕ) (st : IncrementStage) (u :
             let more = entry_cursor e in
             let new : k ≡ (tables_of b).cursors REMEMBERED_CURSOR = omega (arith, from, high, more) in
             entry_there k some chosen e new room;
-        entries = λ h. subst (λ l. AreEntries l (tables_of c)) (sym limits) ((kept some chosen e).entries h);
+        entries = λ h. subst (λ l. AreEntries l (tables_of c)) (sym limits) ((kept e).entries h);
         idle = λ none. absurd (none_counted (tables_of b) b.limits.blocks (granule_of q.0 / GRANULES_IN_BLOCK) none (block_within some) (chosen_told (state_in (tables_of b) (granule_of q.0 / GRANULES_IN_BLOCK)) chosen));
       }
     ]
@@ -232,7 +232,7 @@ module _ (b : Space) (m : Moment) (at : Name → ℕ) (st : IncrementStage) (u :
         let in_chosen : is_in_chosen (tables_of b) q ≡ true = ap (λ z. is_chosen (state_in (tables_of b) (granule_of z / GRANULES_IN_BLOCK))) there ∙ ap is_chosen told in
         elim (case_of b p i q) [
           | nothing reason same ↦ absurd (elim reason [ inl zero ↦ omega (arith, zero, there, placed) | inr out ↦ let k : true ≡ false = sym in_chosen ∙ out in cc ])
-          | entry some told_chosen same ↦ elim (kept some told_chosen same).field [
+          | entry some told_chosen same ↦ elim (kept same).field [
             | inl is_there ↦ inl (subst (λ l. IsRemembered l (tables_of c) st.now u i) (sym limits) is_there)
             | inr full ↦ inr (subst (λ l. HasOverflowed l (tables_of c)) (sym limits) full)
           ]

@@ -101,7 +101,7 @@ module _ (s : Space) (m : Moment) (at : Name → ℕ) (st : IncrementStage) (is 
       let c = few_promoted in
       omega (arith, a, b, c)
 
-  few_written : length m.written ≤ 16 * 65536
+  few_written : length m.written ≤ 255 * 65536
   few_written =
       let as_many : length s.logged.items ≡ length m.written = logged_as_many in
       let few = is.few_logs in

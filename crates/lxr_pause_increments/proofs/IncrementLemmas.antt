@@ -30,7 +30,7 @@ use Rattle.lxr_pause_increments.specs.Moving.{IsMoving}
 use Rattle.lxr_pause_increments.specs.Promotion.{RaisesAt, stuck_with, with_raised}
 use Rattle.lxr_pause_increments.proofs.TracedLemmas.{marks_same}
 use Rattle.lxr_pause_increments.proofs.RangeLemmas.{raised_some}
-use Rattle.lxr_pause_increments.proofs.FrameLemmas.{leaves_spread, room_stays, same_blocks, same_limits, space_stays}
+use Rattle.lxr_pause_increments.proofs.FrameLemmas.{leaves_spread, room_stays, same_limits, space_stays}
 use Rattle.lxr_pause_increments.proofs.MarkLemmas.{marks_raised}
 use Rattle.lxr_pause_increments.proofs.BitLemmas.{bits_raised}
 use Rattle.lxr_pause_increments.proofs.RaiseLemmas.{RaisesOnce, counts_then}
@@ -113,8 +113,8 @@ incrementing_with a c m at st after leaves still stays found is raises = record 
   logs = subst (λ (s : Space). AreLogged m at s.logged.items) (sym leaves.space) is.logs;
   few_logs = subst (λ (s : Space). length s.logged.items ≤ s.limits.threads * s.limits.log) (sym leaves.space) is.few_logs;
   none_done = λ k. ap (λ f. f k) still.dones ∙ is.none_done k;
-  blocks = subst (λ z. HasBlocks (tables_of c) z m.trace) (sym (same_blocks a c leaves))
-      (blocks_kept (tables_of a) (tables_of c) a.limits.blocks m.trace still.states (leaves.tables.cursors TRACING_WORD (λ e. omega (arith, e))) is.blocks);
+  blocks = subst (λ z. HasBlocks (tables_of c) z m.trace) (sym (same_limits a c leaves))
+      (blocks_kept (tables_of a) (tables_of c) a.limits m.trace still.states (leaves.tables.cursors TRACING_WORD (λ e. omega (arith, e))) is.blocks);
   decrements = (leaves.tables.cursors DECREMENT_CURSOR (λ e. omega (arith, e)) ∙ is.decrements.0, leaves.tables.cursors DECREMENT_COUNT (λ e. omega (arith, e)) ∙ is.decrements.1);
   might_remember = subst (λ s. CanRemember m.trace (tables_of s)) (sym found) is.might_remember;
   remembered = subst (λ s. StaysRemembered s c m (first_stage at s) after) (sym found) (stays_both st.found a c m (first_stage at st.found) st after is.remembered stays);

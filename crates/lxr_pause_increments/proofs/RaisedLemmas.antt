@@ -7,8 +7,10 @@ use Rattle.std.proofs.lemmas.Bool.{cases_lt}
 use Rattle.std.proofs.lemmas.Bool.Decides.{eqb_tells}
 use Rattle.std.proofs.lemmas.List.Sorted.{IsPermutation-reverse, sum_by-IsPermutation}
 use Rattle.std.proofs.lemmas.Option.{get_or_from_slice_get, slice_get_within}
+use Rattle.lxr_layout.specs.declared.limits.Limits.{Limits}
 use Rattle.lxr_layout.specs.declared.Name.{Name}
-use Rattle.lxr_layout.specs.declared.TheConstants.{DECREMENT_COUNT, DECREMENT_CURSOR, GRANULES_IN_BLOCK, GRANULES_IN_LINE, LINES_IN_BLOCK, REMEMBERED_CURSOR, STUCK, TRACING_WORD}
+use Rattle.lxr_layout.specs.declared.TheConstants.{DECREMENT_COUNT, DECREMENT_CURSOR, GRANULES_IN_BLOCK, GRANULES_IN_LINE, LINES_IN_BLOCK, REMEMBERED_CURSOR, STUCK, TRACING_WORD, WORDS_IN_LINE}
+use Rattle.lxr_layout.specs.Runs.{word_of_entry}
 use Rattle.lxr_graph.specs.Names.{has, without}
 use Rattle.lxr_graph.specs.State.{Object, object_at, refs_of, world_name}
 use Rattle.lxr_graph.proofs.NameSets.{has-union, not_both, union_cases, union_right}
@@ -27,7 +29,7 @@ use Rattle.lxr_model_counting.proofs.BalanceLemmas.{has_permuted, references_per
 use Rattle.lxr_model_counting.proofs.DistinctLemmas.{distinct_permuted, or_false, union_same}
 use Rattle.lxr_model_counting.proofs.LoweringLemmas.{without_none}
 use Rattle.lxr_model_counting.proofs.RaisingLemmas.{growth_is_promoted}
-use Rattle.lxr_invariant.specs.Standing.{HasBits, place_of}
+use Rattle.lxr_invariant.specs.Standing.{HasBits, place_of, word_of_field}
 use Rattle.lxr_invariant.specs.Counting.{count_at, entries_between, undone, waiting_at}
 use Rattle.lxr_invariant.specs.Copied.{CopiesLieOnFreeLines, CopiesPromoted, StayForWantOfLines}
 use Rattle.lxr_invariant.specs.Keeping.{KeepsLists}
@@ -291,7 +293,7 @@ module _ (s : Space) (m : Moment) (at : Name → ℕ) (st : IncrementStage) (is 
         none_done = λ k. ap (λ x. x.dones k) tables ∙ incrementing.none_done k;
         none_out = λ line. ap (λ x. x.outs line) tables;
         unused = unused;
-        blocks = blocks_still (tables_of s) t s.limits.blocks m.trace (ap (λ x. x.states) tables) (ap (λ x. x.cursors TRACING_WORD) tables) incrementing.blocks;
+        blocks = blocks_still (tables_of s) t s.limits m.trace (ap (λ x. x.states) tables) (ap (λ x. x.cursors TRACING_WORD) tables) incrementing.blocks;
         decrements = (ap (λ x. x.cursors DECREMENT_CURSOR) tables ∙ incrementing.decrements.0, ap (λ x. x.cursors DECREMENT_COUNT) tables ∙ incrementing.decrements.1);
         no_rest = refl;
         no_work = incrementing.worklist ∙ ap (map (place_of st.now)) is.settled.no_work;
@@ -299,18 +301,18 @@ module _ (s : Space) (m : Moment) (at : Name → ℕ) (st : IncrementStage) (is 
 
   -- only references that were raised and lead into Chosen blocks are remembered
   only_end : (u : Tables) → u ≡ with_ended s → (k : ℕ) → (tables_of st.found).cursors REMEMBERED_CURSOR ≤ k → k < u.cursors REMEMBERED_CURSOR → k < st.found.limits.remember
-      → HasEntryOf u m st.now (λ n i. IsTrue (has s.report.promoted.items n) ⊎ IsTrue (has_field m.written (n, i))) k
+      → HasEntryOf st.found.limits u m st.now (λ n i. IsTrue (has s.report.promoted.items n) ⊎ IsTrue (has_field m.written (n, i))) k
   only_end u tables k from high room =
       let stays = incrementing.remembered in
       let is = stays.since k from (subst (λ z. k < z) (ap (λ t. t.cursors REMEMBERED_CURSOR) tables) high) (subst (λ l. k < l.remember) (sym stays.limits) room) in
-      subst (λ t. HasEntryOf t m st.now (λ n i. IsTrue (has s.report.promoted.items n) ⊎ IsTrue (has_field m.written (n, i))) k) (sym tables) (record {
+      subst (λ t. HasEntryOf st.found.limits t m st.now (λ n i. IsTrue (has s.report.promoted.items n) ⊎ IsTrue (has_field m.written (n, i))) k) (sym tables) (record {
         holder = is.holder;
         held = is.held;
         index = is.index;
         one = elim is.one.changes [ inl h ↦ inl (last.same is.holder ∙ h) | inr h ↦ inr h ];
         holds = is.holds;
         chosen = is.chosen;
-        entry = is.entry;
+        entry = subst (λ (l : Limits). (tables_of s).remembered k ≡ word_of_entry l.blocks ((tables_of s).reuse (word_of_field st.now is.holder is.index / WORDS_IN_LINE)) (place_of st.now is.holder) is.index) stays.limits is.entry;
       })
 
   -- all of them are, and what was remembered is

@@ -31,7 +31,7 @@ use Rattle.lxr_pause_increments.proofs.FixedLemmas.{IsSameStage}
 pub entries_on : (l k : Limits) (t u : Tables) → k ≡ l → u.remembered ≡ t.remembered → u.cursors REMEMBERED_CURSOR ≡ t.cursors REMEMBERED_CURSOR → AreEntries l t → AreEntries k u
 entries_on l k t u limits set cursor are = subst (λ x. AreEntries x u) (sym limits) (λ j below room.
     let e = are j (subst (λ x. j < x) cursor below) room in
-    (e.0, e.1, e.2, record { is = ap (λ f. f j) set ∙ e.3.is; small = e.3.small; entry = e.3.entry; in_heap = e.3.in_heap }))
+    (e.0, e.1, e.2, record { is = ap (λ f. f j) set ∙ e.3.is; entry = e.3.entry; in_heap = e.3.in_heap }))
 
 -- what a step leaves of the set
 pub record LeavesSet (a b : Space) : Type 0 where
@@ -94,10 +94,10 @@ module _ (a b : Space) (m : Moment) (st later : IncrementStage) (stays : StaysRe
 
   -- the entry of a reference is its entry still
   pub entry_stays : (u : Name) (i k : ℕ) → IsTrue (has (with_promoted m st.promoted) u) → i < length (references_at m u) → k < (tables_of a).cursors REMEMBERED_CURSOR
-      → (tables_of a).remembered k ≡ word_of_entry ((tables_of a).reuse (word_of_field st.now u i / WORDS_IN_LINE)) (place_of st.now u) i
-      → (tables_of b).remembered k ≡ word_of_entry ((tables_of b).reuse (word_of_field later.now u i / WORDS_IN_LINE)) (place_of later.now u) i
+      → (tables_of a).remembered k ≡ word_of_entry a.limits.blocks ((tables_of a).reuse (word_of_field st.now u i / WORDS_IN_LINE)) (place_of st.now u) i
+      → (tables_of b).remembered k ≡ word_of_entry b.limits.blocks ((tables_of b).reuse (word_of_field later.now u i / WORDS_IN_LINE)) (place_of later.now u) i
   entry_stays u i k known within below is =
-      stays.below k below ∙ is ∙ (λ j. word_of_entry (sym (stays.lines u i known within) j) (record { 0 = sym (stays.known u known).1 j }) i)
+      stays.below k below ∙ is ∙ (λ j. word_of_entry (sym stays.limits j).blocks (sym (stays.lines u i known within) j) (record { 0 = sym (stays.known u known).1 j }) i)
 
   pub remembered_on : (u : Name) (i : ℕ) → IsTrue (has (with_promoted m st.promoted) u) → i < length (references_at m u) → IsRemembered a.limits (tables_of a) st.now u i → IsRemembered b.limits (tables_of b) later.now u i
   remembered_on u i known within is =
@@ -108,7 +108,7 @@ module _ (a b : Space) (m : Moment) (st later : IncrementStage) (stays : StaysRe
   pub overflowed_on : HasOverflowed a.limits (tables_of a) → HasOverflowed b.limits (tables_of b)
   overflowed_on is = let more = stays.cursor in subst (λ l. l.remember < (tables_of b).cursors REMEMBERED_CURSOR) (sym stays.limits) (omega (arith, is, more))
 
-  pub entry_on : (k : ℕ) → k < (tables_of a).cursors REMEMBERED_CURSOR → HasEntryOf (tables_of a) m st.now (WasRaised m st) k → HasEntryOf (tables_of b) m later.now (WasRaised m later) k
+  pub entry_on : (k : ℕ) → k < (tables_of a).cursors REMEMBERED_CURSOR → HasEntryOf a.limits (tables_of a) m st.now (WasRaised m st) k → HasEntryOf b.limits (tables_of b) m later.now (WasRaised m later) k
   entry_on k below is = record {
     holder = is.holder;
     held = is.held;

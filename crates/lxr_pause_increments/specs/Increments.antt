@@ -62,7 +62,7 @@ pub record StaysRemembered (before after : Space) (m : Moment) (st later : Incre
   pub cursor : (tables_of before).cursors REMEMBERED_CURSOR ≤ (tables_of after).cursors REMEMBERED_CURSOR
   pub below : (k : ℕ) → k < (tables_of before).cursors REMEMBERED_CURSOR → (tables_of after).remembered k ≡ (tables_of before).remembered k
   pub since : (k : ℕ) → (tables_of before).cursors REMEMBERED_CURSOR ≤ k → k < (tables_of after).cursors REMEMBERED_CURSOR → k < after.limits.remember
-      → HasEntryOf (tables_of after) m later.now (WasRaised m later) k
+      → HasEntryOf after.limits (tables_of after) m later.now (WasRaised m later) k
   pub entries : AreEntries before.limits (tables_of before) → AreEntries after.limits (tables_of after)
   pub idle : NoneChosen (tables_of before) before.limits.blocks
       → ((tables_of after).remembered ≡ (tables_of before).remembered) × ((tables_of after).cursors REMEMBERED_CURSOR ≡ (tables_of before).cursors REMEMBERED_CURSOR)
@@ -112,7 +112,7 @@ pub record IsIncrementing (s : Space) (m : Moment) (at : Name → ℕ) (st : Inc
   pub logs : AreLogged m at s.logged.items
   pub few_logs : length s.logged.items ≤ s.limits.threads * s.limits.log
   pub none_done : (k : ℕ) → (tables_of s).dones k ≡ false
-  pub blocks : HasBlocks (tables_of s) s.limits.blocks m.trace
+  pub blocks : HasBlocks (tables_of s) s.limits m.trace
   pub decrements : ((tables_of s).cursors DECREMENT_CURSOR ≡ 0) × ((tables_of s).cursors DECREMENT_COUNT ≡ 0)
   -- references might be remembered as increments began, and what was remembered is
   pub might_remember : CanRemember m.trace (tables_of st.found)

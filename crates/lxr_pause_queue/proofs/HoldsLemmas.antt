@@ -141,7 +141,7 @@ module _ (s : Space) (m : Moment) (at : Name → ℕ) (promoted stuck : List Nam
       lines = λ n o k h. no_member n h;
       unchosen = λ n h. no_member n h;
       unused = subst (λ t. FreeAreUnused t at us) (sym are) (record { objects = is.unused.objects; outs = is.unused.outs });
-      blocks = subst (λ t. HasBlocks t s.limits.blocks m.trace) (sym are) (blocks_still (tables_of s) u s.limits.blocks m.trace refl queued.tracing is.blocks);
+      blocks = subst (λ t. HasBlocks t s.limits m.trace) (sym are) (blocks_still (tables_of s) u s.limits m.trace refl queued.tracing is.blocks);
       rest = rest_then;
       no_work = is.no_work;
     }

@@ -1,13 +1,14 @@
 -- Each number that is drawn while a trace is finished has an entry of its own: a reference is passed once, when its entry is written.
-use Rattle.std.proofs.Common.{◌≡◌, ◌≢◌, ℕ, suc, ◌+◌, ◌^◌, ◌<◌, ◌≤◌, refl, sym, ap, subst, ◌∙◌, inl, inr, arith, List, [], ◌∷◌, ◌++◌, IsTrue, length}
+use Rattle.std.proofs.Common.{◌≡◌, ◌≢◌, ℕ, suc, ◌+◌, ◌<◌, ◌≤◌, refl, sym, ap, subst, ◌∙◌, inl, inr, arith, List, [], ◌∷◌, ◌++◌, IsTrue, length}
 use Rattle.std.specs.Prelude.{Some}
 use Rattle.std.specs.List.{Contains}
 use Rattle.std.proofs.lemmas.Bool.Decides.{leb_tells}
 use Rattle.std.proofs.lemmas.List.Elements.{Contains-append_left, Contains-push, Contains-push_cases}
-use Rattle.lxr_layout.specs.declared.TheConstants.{MOST_GRANULES_REMEMBERED, REMEMBERED_CURSOR}
+use Rattle.lxr_layout.specs.declared.TheConstants.{REMEMBERED_CURSOR}
 use Rattle.lxr_layout.specs.declared.limits.Limits.{Limits}
 use Rattle.lxr_layout.specs.declared.Place.{Place}
-use Rattle.lxr_layout.specs.Runs.{word_of_entry}
+use Rattle.lxr_layout.specs.Runs.{IsEntry, word_of_entry}
+use Rattle.lxr_layout.proofs.EntryLemmas.{one_entry}
 use Rattle.lxr_image.specs.Tables.{Tables}
 use Rattle.lxr_image.specs.Reads.{field_at, granule_of}
 use Rattle.lxr_invariant.proofs.EntryLemmas.{changed_here}
@@ -44,13 +45,6 @@ not_before (q ∷ ps) p once h = elim (first_or_later q ps p h) [
 
 -- ---- entries
 
--- an entry tells its reference
-same_reference : (c d p q i j : ℕ) → p ≤ MOST_GRANULES_REMEMBERED → q ≤ MOST_GRANULES_REMEMBERED → i ≤ 1022 → j ≤ 1022 → word_of_entry c (record { 0 = p }) i ≡ word_of_entry d (record { 0 = q }) j → (p ≡ q) × (i ≡ j)
-same_reference c d p q i j in_p in_q in_i in_j e =
-    let counter : c ≡ d = omega (arith, in_p, in_q, in_i, in_j, e) in
-    let place : p ≡ q = omega (arith, in_i, in_j, e, counter) in
-    (place, omega (arith, e, counter, place))
-
 -- nothing is drawn yet
 pub none_drawn : (l : Limits) (t : Tables) (IsLater : ℕ → ℕ → Type 0) → EntersOnly l t t IsLater
 none_drawn l t IsLater = record {
@@ -83,7 +77,7 @@ entered_alike l t0 t u IsLater IsThen from (r ∷ rs) set reuse states marks few
     chosen = ap (λ f. is_in_chosen (record t { states = f }) (record { 0 = are.0.held })) states ∙ are.0.chosen;
   },
   are.1,
-  λ room. set (from + length rs) (omega arith) ∙ are.2 room ∙ ap (λ f. word_of_entry (f (line_of_field (record { 0 = r.0 }) r.1)) (record { 0 = r.0 }) r.1) (sym reuse),
+  λ room. set (from + length rs) (omega arith) ∙ are.2 room ∙ ap (λ f. word_of_entry l.blocks (f (line_of_field (record { 0 = r.0 }) r.1)) (record { 0 = r.0 }) r.1) (sym reuse),
   entered_alike l t0 t u IsLater IsThen from rs (λ k below. set k (omega (arith, below))) reuse states marks fewer are.3,
 )
 
@@ -101,7 +95,7 @@ module _ (l : Limits) (t0 t : Tables) (IsLater : ℕ → ℕ → Type 0) (drawn 
       placed = e.placed;
       holds = e.holds;
       chosen = ap (λ f. is_in_chosen (record t { states = f }) (record { 0 = e.held })) states ∙ e.chosen;
-      entry = ap (λ f. f k) remembered ∙ e.entry ∙ ap (λ f. word_of_entry (f (line_of_field (record { 0 = e.place }) e.index)) (record { 0 = e.place }) e.index) (sym reuse);
+      entry = ap (λ f. f k) remembered ∙ e.entry ∙ ap (λ f. word_of_entry l.blocks (f (line_of_field (record { 0 = e.place }) e.index)) (record { 0 = e.place }) e.index) (sym reuse);
     };
     once = λ j k from less below room same. drawn.once j k from less (subst (λ c. k < c) cursor below) room (sym (ap (λ f. f j) remembered) ∙ same ∙ ap (λ f. f k) remembered);
     entered = drawn.entered;
@@ -116,7 +110,7 @@ module _ (l : Limits) (t0 t : Tables) (IsLater : ℕ → ℕ → Type 0) (drawn 
   -- ---- one reference is passed
 
   module _ (p i held : ℕ) (IsThen : ℕ → ℕ → Type 0) (waits : IsWaiting t0 t p) (placed : 1 ≤ held) (holds : field_at t0 p i ≡ Some held) (was : IsLater p i) (passed : ¬ IsThen p i)
-      (fewer : (q j : ℕ) → IsThen q j → IsLater q j) (small : IsTrue (is_in_chosen t (record { 0 = held })) → (q j r : ℕ) → IsLeft t0 q → field_at t0 q j ≡ Some r → (q ≤ MOST_GRANULES_REMEMBERED) × (j ≤ 1022)) where
+      (fewer : (q j : ℕ) → IsThen q j → IsLater q j) (fits : (q j r : ℕ) → IsLeft t0 q → field_at t0 q j ≡ Some r → IsEntry l.blocks (t.reuse (line_of_field (record { 0 = q }) j)) (record { 0 = q }) j) where
     abbrev place : Place
     place = record { 0 = p }
 
@@ -124,10 +118,10 @@ module _ (l : Limits) (t0 t : Tables) (IsLater : ℕ → ℕ → Type 0) (drawn 
     u = remembering l t place i
 
     -- its entry is new
-    new : IsTrue (is_in_chosen t (record { 0 = held })) → t.cursors REMEMBERED_CURSOR < l.remember → HasEntryAt t0 u IsThen (t.cursors REMEMBERED_CURSOR)
+    new : IsTrue (is_in_chosen t (record { 0 = held })) → t.cursors REMEMBERED_CURSOR < l.remember → HasEntryAt l t0 u IsThen (t.cursors REMEMBERED_CURSOR)
     new chosen room = record { place = p; index = i; held = held; scanned = record { left = waits.left; marked = waits.marked }; passed = passed; placed = placed; holds = holds; chosen = chosen; entry = new_entry l t place i room }
 
-    old : (k : ℕ) → k < t.cursors REMEMBERED_CURSOR → HasEntryAt t0 t IsLater k → HasEntryAt t0 u IsThen k
+    old : (k : ℕ) → k < t.cursors REMEMBERED_CURSOR → HasEntryAt l t0 t IsLater k → HasEntryAt l t0 u IsThen k
     old k below e = record {
       place = e.place;
       index = e.index;
@@ -141,13 +135,13 @@ module _ (l : Limits) (t0 t : Tables) (IsLater : ℕ → ℕ → Type 0) (drawn 
     }
 
     -- and is none of those before
-    differs : IsTrue (is_in_chosen t (record { 0 = held })) → (j : ℕ) → j < t.cursors REMEMBERED_CURSOR → HasEntryAt t0 t IsLater j → t.cursors REMEMBERED_CURSOR < l.remember → u.remembered j ≢ u.remembered (t.cursors REMEMBERED_CURSOR)
-    differs chosen j below e room same =
-        let in_e = small chosen e.place e.index e.held e.scanned.left e.holds in
-        let in_p = small chosen p i held waits.left holds in
+    differs : (j : ℕ) → j < t.cursors REMEMBERED_CURSOR → HasEntryAt l t0 t IsLater j → t.cursors REMEMBERED_CURSOR < l.remember → u.remembered j ≢ u.remembered (t.cursors REMEMBERED_CURSOR)
+    differs j below e room same =
+        let fits_e = fits e.place e.index e.held e.scanned.left e.holds in
+        let fits_p = fits p i held waits.left holds in
         let words = sym e.entry ∙ sym (old_entry l t place i j below) ∙ same ∙ new_entry l t place i room in
-        let is = same_reference _ _ e.place p e.index i in_e.0 in_p.0 in_e.1 in_p.1 words in
-        e.passed (subst (λ x. IsLater x e.index) (sym is.0) (subst (IsLater p) (sym is.1) was))
+        let is = one_entry l.blocks _ _ (record { 0 = e.place }) place e.index i fits_e fits_p words in
+        e.passed (subst (λ x. IsLater x e.index) (sym is.place) (subst (IsLater p) (sym is.index) was))
 
     entered : IsTrue (is_in_chosen t (record { 0 = held })) → EntersOnly l t0 u IsThen
     entered chosen = record {
@@ -155,7 +149,7 @@ module _ (l : Limits) (t0 t : Tables) (IsLater : ℕ → ℕ → Type 0) (drawn 
         | inl before ↦ let less : k < t.cursors REMEMBERED_CURSOR = before.1 in old k less (drawn.only k from less room)
         | inr after ↦
             let here : k ≡ t.cursors REMEMBERED_CURSOR = let past = after.1 in omega (arith, past, below) in
-            subst (HasEntryAt t0 u IsThen) (sym here) (new chosen (subst (λ x. x < l.remember) here room))
+            subst (HasEntryAt l t0 u IsThen) (sym here) (new chosen (subst (λ x. x < l.remember) here room))
       ];
       once = λ j k from less below room same. elim (leb_tells (suc k) (t.cursors REMEMBERED_CURSOR)) [
         | inl before ↦
@@ -165,7 +159,7 @@ module _ (l : Limits) (t0 t : Tables) (IsLater : ℕ → ℕ → Type 0) (drawn 
             let here : k ≡ t.cursors REMEMBERED_CURSOR = let past = after.1 in omega (arith, past, below) in
             let in_j : j < t.cursors REMEMBERED_CURSOR = omega (arith, less, here) in
             let in_room : t.cursors REMEMBERED_CURSOR < l.remember = subst (λ x. x < l.remember) here room in
-            differs chosen j in_j (drawn.only j from in_j (omega (arith, less, room))) in_room (same ∙ ap u.remembered here)
+            differs j in_j (drawn.only j from in_j (omega (arith, less, room))) in_room (same ∙ ap u.remembered here)
       ];
       entered = (p, i) ∷ drawn.entered;
       are = (

@@ -5,7 +5,7 @@ use Rattle.lxr_layout.specs.declared.limits.Limits.{Limits}
 use Rattle.lxr_layout.specs.declared.Name.{Name}
 use Rattle.lxr_layout.specs.declared.Place.{Place}
 use Rattle.lxr_layout.specs.Runs.{word_of_entry}
-use Rattle.lxr_layout.specs.Spaces.{AreLimits, most_chosen}
+use Rattle.lxr_layout.specs.Spaces.{AreLimits}
 use Rattle.lxr_graph.specs.State.{world_name}
 use Rattle.lxr_image.specs.declared.space.Space.{Space}
 use Rattle.lxr_image.specs.Spaces.{AreWithin, tables_of}
@@ -14,9 +14,9 @@ use Rattle.lxr_image.specs.Reads.{granule_of}
 use Rattle.lxr_image.proofs.TableLaws.{count_fits, reuse_fits}
 use Rattle.lxr_blocks.specs.States.{state_in}
 use Rattle.lxr_model_counting.proofs.DistinctLemmas.{tested}
-use Rattle.lxr_invariant.specs.Lines.{NoneChosen, chosen_count}
+use Rattle.lxr_invariant.specs.Lines.{NoneChosen}
 use Rattle.lxr_invariant.specs.Tracing.{HasOverflowed}
-use Rattle.lxr_invariant.proofs.BlockLemmas.{none_counted, small_where_chosen}
+use Rattle.lxr_invariant.proofs.BlockLemmas.{none_counted}
 use Rattle.lxr_invariant.proofs.EntryLemmas.{changed_cases, changed_here}
 use Rattle.lxr_invariant.proofs.FrameLemmas.{chosen_still}
 use Rattle.lxr_remset.specs.Remembering.{IsField, KeepsSet, is_in_chosen, line_of_field, remembering, remembering_chosen, with_remembered_of}
@@ -39,10 +39,10 @@ kept_alike l t u remembered drawn reuse = record {
     e.0,
     subst (λ c. e.0 < c) (sym drawn) e.1,
     e.2,
-    ap (λ f. f e.0) remembered ∙ e.3 ∙ ap (λ f. word_of_entry (f (line_of_field (record { 0 = p }) i)) (record { 0 = p }) i) (sym reuse),
+    ap (λ f. f e.0) remembered ∙ e.3 ∙ ap (λ f. word_of_entry l.blocks (f (line_of_field (record { 0 = p }) i)) (record { 0 = p }) i) (sym reuse),
   );
   full = subst (λ c. l.remember < c) (sym drawn);
-  entries = λ are k below room. let e = are k (subst (λ c. k < c) drawn below) room in (e.0, e.1, e.2, record { is = ap (λ f. f k) remembered ∙ e.3.is; small = e.3.small; entry = e.3.entry; in_heap = e.3.in_heap });
+  entries = λ are k below room. let e = are k (subst (λ c. k < c) drawn below) room in (e.0, e.1, e.2, record { is = ap (λ f. f k) remembered ∙ e.3.is; entry = e.3.entry; in_heap = e.3.in_heap });
   idle = λ none. (remembered, drawn);
 }
 
@@ -133,15 +133,13 @@ module _ (l : Limits) (t : Tables) (p i held : ℕ) where
   pub one_drawn : then.cursors REMEMBERED_CURSOR ≤ t.cursors REMEMBERED_CURSOR + 1
   one_drawn = by_test (λ u. u.cursors REMEMBERED_CURSOR ≤ t.cursors REMEMBERED_CURSOR + 1) (omega arith) (omega arith)
 
-  module _ (limits : AreLimits l) (within : AreWithin t) (few : chosen_count t l.blocks ≤ most_chosen l.blocks) (field : IsField l place i) (inside : granule_of held < GRANULES_IN_BLOCK * l.blocks) where
+  module _ (limits : AreLimits l) (within : AreWithin t) (field : IsField l place i) (inside : granule_of held < GRANULES_IN_BLOCK * l.blocks) where
     -- two names, one of which stands at the place, and the other anywhere
     abbrev two : ℕ → Name → ℕ
     two q n = cond (nat_eq n.serial 0) p q
 
-    keeps : IsTrue (is_in_chosen t referent) → (q : ℕ) → KeepsSet l t (remembering l t place i) (two q) world_name i
-    keeps is q =
-        let chosen = chosen_told (state_in t (granule_of held / GRANULES_IN_BLOCK)) is in
-        remembering_keeps_set l t (two q) world_name i limits within (small_where_chosen t l.blocks (granule_of held / GRANULES_IN_BLOCK) few (omega (arith, inside)) chosen) field
+    keeps : (q : ℕ) → KeepsSet l t (remembering l t place i) (two q) world_name i
+    keeps q = remembering_keeps_set l t (two q) world_name i limits within field
 
     -- the block of what is held is one of the heap
     pub some_chosen : IsTrue (is_in_chosen t referent) → NoneChosen t l.blocks → ⊥
@@ -149,9 +147,9 @@ module _ (l : Limits) (t : Tables) (p i held : ℕ) where
 
     entering : IsTrue (is_in_chosen t referent) → KeepsEntries l t (remembering l t place i)
     entering is = record {
-      entered = λ q j e. (keeps is q).others (record { thread = 0; serial = 1 }) j e;
-      full = (keeps is p).full;
-      entries = (keeps is p).entries;
+      entered = λ q j e. (keeps q).others (record { thread = 0; serial = 1 }) j e;
+      full = (keeps p).full;
+      entries = (keeps p).entries;
       idle = λ none. absurd (some_chosen is none);
     }
 
@@ -162,4 +160,4 @@ module _ (l : Limits) (t : Tables) (p i held : ℕ) where
     ]
 
     pub is_entered : IsTrue (is_in_chosen t referent) → IsEntered l then p i ⊎ HasOverflowed l then
-    is_entered is = subst (λ u. IsEntered l u p i ⊎ HasOverflowed l u) (sym (where_chosen l t place i referent is)) (keeps is p).field
+    is_entered is = subst (λ u. IsEntered l u p i ⊎ HasOverflowed l u) (sym (where_chosen l t place i referent is)) (keeps p).field

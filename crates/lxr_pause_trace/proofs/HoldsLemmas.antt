@@ -66,7 +66,7 @@ holds_remarked s after m at same tables marks grays is =
       lines = out_still t u m.state.graph at m.made outs is.lines;
       unchosen = unchosen_still t u at m.made states is.unchosen;
       unused = unused_still t u at m.unreclaimed m.unreclaimed states outs itself is.unused;
-      blocks = subst (λ l. HasBlocks u l.blocks m.trace) (sym limits) (blocks_still t u s.limits.blocks m.trace states tracing is.blocks);
+      blocks = subst (λ l. HasBlocks u l m.trace) (sym limits) (blocks_still t u s.limits m.trace states tracing is.blocks);
       rest = rest_left s after m at m.unreclaimed itself (ap (λ z. z.rest_next) same) (ap (λ z. z.rest_end) same) limits outs states is.rest;
       no_work = ap (λ z. z.work.items) same ∙ is.no_work;
     }

@@ -237,7 +237,6 @@ module _ (a b : Space) (place : Place) (finds : Finds a b place) where
       };
       traceable = stage.traceable;
       far = stage.far;
-      few_chosen = stage.few_chosen;
       so_far = so_far;
       ended = λ k below h. elim (grays_cases k h) [ inl old ↦ marks_grow k (stage.ended k below old) | inr here ↦ ap u.marks here ∙ is_found.marked ];
       waiting = waits;

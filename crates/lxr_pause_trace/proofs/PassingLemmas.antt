@@ -2,21 +2,21 @@
 use Rattle.std.proofs.Common.{◌≡◌, ◌≢◌, ℕ, ◌+◌, ◌-◌, ◌*◌, ◌/◌, ◌^◌, ◌<◌, ◌≤◌, refl, sym, ap, subst, ◌∙◌, inl, inr, ◌⊎◌, arith, IsTrue, length}
 use Rattle.std.specs.Prelude.{not, Some}
 use Rattle.std.specs.List.{Contains}
-use Rattle.lxr_layout.specs.declared.TheConstants.{GRANULES_IN_BLOCK, MOST_BLOCKS_REMEMBERED, MOST_GRANULES_REMEMBERED, REMEMBERED_CURSOR}
+use Rattle.lxr_layout.specs.declared.TheConstants.{GRANULES_IN_BLOCK, REMEMBERED_CURSOR}
 use Rattle.lxr_layout.specs.declared.Place.{Place}
 use Rattle.lxr_layout.specs.Places.{field_word}
-use Rattle.lxr_layout.specs.Spaces.{most_chosen}
+use Rattle.lxr_layout.specs.Runs.{IsEntry}
 use Rattle.lxr_image.specs.declared.space.Space.{Space}
 use Rattle.lxr_image.specs.Spaces.{IsSpace, Turns, tables_of}
 use Rattle.lxr_image.specs.Tables.{Tables}
 use Rattle.lxr_image.specs.Reads.{field_at, granule_of}
 use Rattle.lxr_blocks.specs.States.{state_in}
 use Rattle.lxr_invariant.specs.Counting.{passing}
-use Rattle.lxr_invariant.specs.Lines.{NoneChosen, chosen_count}
+use Rattle.lxr_invariant.specs.Lines.{NoneChosen}
 use Rattle.lxr_invariant.specs.Tracing.{HasOverflowed}
-use Rattle.lxr_invariant.proofs.BlockLemmas.{none_counted, small_where_chosen}
+use Rattle.lxr_invariant.proofs.BlockLemmas.{none_counted}
 use Rattle.lxr_invariant.proofs.FrameLemmas.{chosen_still}
-use Rattle.lxr_remset.specs.Remembering.{IsField, is_in_chosen, remembering_chosen}
+use Rattle.lxr_remset.specs.Remembering.{IsField, is_in_chosen, line_of_field, remembering_chosen}
 use Rattle.lxr_remset.proofs.ChosenLemmas.{chosen_told}
 use Rattle.lxr_pause_trace.specs.Marking.{EntersOnly, Finds, HasAllLeft, IsEntered, IsFound, IsLeft, IsScanning, IsSeen, KeepsEntries, MarkingStage, WaitOnce, granules, slots_at, to_do, unmarked_slots, waiting_slots}
 use Rattle.lxr_pause_trace.proofs.DrawnLemmas.{drawn_passed}
@@ -70,17 +70,6 @@ module _ (before b : Space) (place i w : ℕ) (is : IsScanning before b place i)
       let here = subst (λ l. granule_of w < GRANULES_IN_BLOCK * l.blocks) limits_same held_inside in
       none_counted t before.limits.blocks (granule_of w / GRANULES_IN_BLOCK) still (omega (arith, here)) (chosen_told (state_in t (granule_of w / GRANULES_IN_BLOCK)) chosen)
 
-  -- no more blocks are Chosen than may be, and where one is, entries have room for the places of the heap
-  few_here : chosen_count t b.limits.blocks ≤ most_chosen b.limits.blocks
-  few_here =
-      subst (λ l. chosen_count t l.blocks ≤ most_chosen l.blocks) (sym limits_same)
-      (subst (λ n. n ≤ most_chosen before.limits.blocks) (sym (chosen_still t0 t before.limits.blocks (ap (λ z. z.states) is.stage.tables))) is.stage.few_chosen)
-
-  small_heap : IsTrue (is_in_chosen t (record { 0 = w })) → b.limits.blocks ≤ MOST_BLOCKS_REMEMBERED
-  small_heap chosen =
-      let here = held_inside in
-      small_where_chosen t b.limits.blocks (granule_of w / GRANULES_IN_BLOCK) few_here (omega (arith, here)) (chosen_told (state_in t (granule_of w / GRANULES_IN_BLOCK)) chosen)
-
   pub cursor_far : IsTrue (is_in_chosen t (record { 0 = w })) → t.cursors REMEMBERED_CURSOR < 2 ^ 63
   cursor_far chosen = elim is.stage.far [
     | inl none ↦ absurd (none_here chosen none)
@@ -123,7 +112,7 @@ module _ (before b : Space) (place i w : ℕ) (is : IsScanning before b place i)
 
     kept_now : KeepsEntries before.limits t u
     kept_now = subst (λ l. KeepsEntries l t u) limits_same
-        (subst (KeepsEntries b.limits t) (sym turns.tables) (entries_kept b.limits t place i w is.stage.space.limits (are_within b) few_here field_here held_inside))
+        (subst (KeepsEntries b.limits t) (sym turns.tables) (entries_kept b.limits t place i w is.stage.space.limits (are_within b) field_here held_inside))
 
     found_now : (q : ℕ) → IsFound t q → IsFound u q
     found_now q there = record { gray = grayed (granule_of q) ∙ there.gray; marked = marked (granule_of q) ∙ there.marked }
@@ -143,7 +132,7 @@ module _ (before b : Space) (place i w : ℕ) (is : IsScanning before b place i)
       found = found_now w found;
       remembered = subst (λ l. IsTrue (is_in_chosen u (record { 0 = w })) → IsEntered l u place i ⊎ HasOverflowed l u) limits_same (λ chosen.
           subst (λ z. IsEntered b.limits z place i ⊎ HasOverflowed b.limits z) (sym turns.tables)
-          (is_entered b.limits t place i w is.stage.space.limits (are_within b) few_here field_here held_inside (was_chosen w chosen)));
+          (is_entered b.limits t place i w is.stage.space.limits (are_within b) field_here held_inside (was_chosen w chosen)));
     }
 
     -- what was seen is, but for what is pending
@@ -154,15 +143,16 @@ module _ (before b : Space) (place i w : ℕ) (is : IsScanning before b place i)
       | inr (inr there) ↦ inr (inr (seen_now p j q there))
     ]
 
-    -- an object that is scanned stands in the heap, and has at most 1,023 references
-    small : IsTrue (is_in_chosen t (record { 0 = w })) → (p j q : ℕ) → IsLeft t0 p → field_at t0 p j ≡ Some q → (p ≤ MOST_GRANULES_REMEMBERED) × (j ≤ 1022)
-    small chosen p j q left e =
+    -- an object that is scanned stands in the heap, and has at most 1,023 references, so each may have an entry
+    fits : (p j q : ℕ) → IsLeft t0 p → field_at t0 p j ≡ Some q → IsEntry before.limits.blocks (t.reuse (line_of_field (record { 0 = p }) j)) (record { 0 = p }) j
+    fits p j q left e =
         let x = left_start t0 before.limits.blocks is.stage.traceable p left in
         let below = field_within t0 p j q e in
         let few = slots_small t0 before.limits.blocks is.stage.traceable p in
         let inside = (started_place b p is.stage.space x.0 (ap (λ z. z.starts (granule_of p)) is.stage.tables ∙ x.1)).0 in
-        let blocks = small_heap chosen in
-        (omega (arith, inside, blocks), omega (arith, below, few))
+        let heap = is.stage.space.limits.blocks.1 in
+        let same : b.limits.blocks ≡ before.limits.blocks = ap (λ l. l.blocks) limits_same in
+        record { heap = omega (arith, heap, same); counter = (are_within b).reuse (line_of_field (record { 0 = p }) j); place = (x.0, omega (arith, inside, same)); index = omega (arith, below, few) }
 
     not_later : ¬ (Contains b.work.items (record { 0 = place }) ⊎ ((place ≡ place) × (i + 1 ≤ i)))
     not_later (inl c) = is.out c
@@ -173,14 +163,13 @@ module _ (before b : Space) (place i w : ℕ) (is : IsScanning before b place i)
     drawn_then = subst (λ x. EntersOnly before.limits t0 u (λ p j. Contains x.items (record { 0 = p }) ⊎ ((p ≡ place) × (i + 1 ≤ j)))) (sym work_same)
         (subst (λ z. EntersOnly before.limits t0 z (λ p j. Contains b.work.items (record { 0 = p }) ⊎ ((p ≡ place) × (i + 1 ≤ j)))) (sym turns.tables)
         (subst (λ l. EntersOnly before.limits t0 (remembering_chosen l t (record { 0 = place }) i (record { 0 = w })) (λ p j. Contains b.work.items (record { 0 = p }) ⊎ ((p ≡ place) × (i + 1 ≤ j)))) (sym limits_same)
-        (drawn_passed before.limits t0 t _ is.stage.drawn place i w _ is.waited some holds (inr (refl, omega arith)) not_later (later_next b place i) small)))
+        (drawn_passed before.limits t0 t _ is.stage.drawn place i w _ is.waited some holds (inr (refl, omega arith)) not_later (later_next b place i) fits)))
 
     entered_stage : MarkingStage before c (granules c) (λ p j. (p ≡ place) × (i + 1 ≤ j)) (slots - (i + 1))
     entered_stage = record {
       space = space;
       traceable = is.stage.traceable;
       far = is.stage.far;
-      few_chosen = is.stage.few_chosen;
       so_far = record {
         marks_kept = λ k h. marked k ∙ is.stage.so_far.marks_kept k h;
         marks_left = λ p placed h. is.stage.so_far.marks_left p placed (sym (marked (granule_of p)) ∙ h);

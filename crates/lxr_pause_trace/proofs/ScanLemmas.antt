@@ -1,5 +1,5 @@
 -- The worklist is emptied: an object is taken out, and one reference of it after another is found.
-use Rattle.std.proofs.Common.{◌≡◌, ◌≢◌, ℕ, ◌+◌, ◌-◌, ◌*◌, ◌^◌, ◌<◌, ◌≤◌, refl, sym, ap, subst, ◌∙◌, inl, inr, ◌⊎◌, arith, Bool, true, false, [], ◌∷◌, ◌++◌, IsTrue, length, length-append, ◌/◌}
+use Rattle.std.proofs.Common.{◌≡◌, ◌≢◌, ℕ, ◌+◌, ◌-◌, ◌*◌, ◌<◌, ◌≤◌, refl, sym, ap, subst, ◌∙◌, inl, inr, ◌⊎◌, arith, Bool, true, false, [], ◌∷◌, ◌++◌, IsTrue, length, length-append, ◌/◌}
 use Rattle.std.specs.Prelude.{not, ◌&&◌, Some}
 use Rattle.std.specs.List.{Contains}
 use Rattle.std.proofs.lemmas.Bool.Decides.{eqb_tells, leb_tells}
@@ -116,7 +116,6 @@ passed_nil before s place i w is holds nil = record {
     space = is.stage.space;
     traceable = is.stage.traceable;
     far = is.stage.far;
-    few_chosen = is.stage.few_chosen;
     so_far = is.stage.so_far;
     ended = is.stage.ended;
     waiting = is.stage.waiting;
@@ -154,7 +153,6 @@ passed_all before s place i is past = record {
   space = is.stage.space;
   traceable = is.stage.traceable;
   far = is.stage.far;
-  few_chosen = is.stage.few_chosen;
   so_far = is.stage.so_far;
   ended = is.stage.ended;
   waiting = is.stage.waiting;
@@ -208,7 +206,6 @@ module _ (s now : Space) (p : Place) (work : s.work ≡ pushed now.work p) (rest
         space = record { limits = is.space.limits; size = is.space.size };
         traceable = is.traceable;
         far = is.far;
-        few_chosen = is.few_chosen;
         so_far = is.so_far;
         ended = is.ended;
         waiting = λ q h. is.waiting q (in_work q (Contains-append_left now.work.items (p ∷ []) q h));
@@ -264,7 +261,6 @@ ended_later before s from to is none = record {
   space = is.space;
   traceable = is.traceable;
   far = is.far;
-  few_chosen = is.few_chosen;
   so_far = is.so_far;
   ended = λ k below h. elim (leb_tells from k) [
     | inl past ↦ unwanted_marked ((tables_of s).grays k) ((tables_of s).marks k) (none k past.1 below) h
@@ -292,7 +288,6 @@ ended_behind before a b from end granule is next inside finds =
       space = stage.space;
       traceable = stage.traceable;
       far = stage.far;
-      few_chosen = stage.few_chosen;
       so_far = stage.so_far;
       ended = λ k under h. elim (eqb_tells k granule) [
         | inl q ↦ ap (tables_of b).marks (q.1 ∙ sym here) ∙ (is_found a b (record { 0 = granule + 1 }) finds).marked

@@ -48,7 +48,6 @@ opening_stage s m at may = record {
   space = can.holds.space;
   traceable = traceable s m at can;
   far = counts_far (tables_of s) s.limits.blocks m.trace can.holds.blocks.chosen may.remembers;
-  few_chosen = can.holds.blocks.few;
   so_far = record {
     marks_kept = λ k h. h;
     marks_left = λ p some h. inl h;
@@ -176,7 +175,7 @@ module _ (s after : Space) (m : Moment) (at : Name → ℕ) (may : CanFinishTrac
   -- ---- what is remembered
 
   -- each number that was drawn has the entry of a reference of what was to be marked
-  entry_by : (k : ℕ) → HasEntryAt t u (λ p i. Contains after.work.items (record { 0 = p }) ⊎ ⊥) k → HasEntryOf u m at (λ n i. IsToBeMarked t m at n) k
+  entry_by : (k : ℕ) → HasEntryAt s.limits t u (λ p i. Contains after.work.items (record { 0 = p }) ⊎ ⊥) k → HasEntryOf s.limits u m at (λ n i. IsToBeMarked t m at n) k
   entry_by k e =
       let n = left_named s m at can e.place e.scanned.left in
       let v = held_named s m at can n.0 e.index e.held (to_be_kept s m at can n.0 n.1) e.placed (ap (λ z. field_at t z e.index) n.2 ∙ e.holds) in
@@ -187,7 +186,7 @@ module _ (s after : Space) (m : Moment) (at : Name → ℕ) (may : CanFinishTrac
         one = n.1;
         holds = v.1;
         chosen = subst (λ z. state_in u (granule_of z / GRANULES_IN_BLOCK) ≡ Chosen) (sym v.2) (chosen_told (state_in u (granule_of e.held / GRANULES_IN_BLOCK)) e.chosen);
-        entry = e.entry ∙ ap (λ z. entry_now u (record { 0 = z }) e.index) (sym n.2);
+        entry = e.entry ∙ ap (λ z. entry_now s.limits.blocks u (record { 0 = z }) e.index) (sym n.2);
       }
 
   remembers : Remembers s.limits t u m at at (λ n i. IsToBeMarked t m at n)
@@ -230,7 +229,7 @@ module _ (s after : Space) (m : Moment) (at : Name → ℕ) (may : CanFinishTrac
             | inr none ↦ none
           ],
           λ room. ap (λ k. u.remembered (t.cursors REMEMBERED_CURSOR + k)) rest.as_many ∙ are.2 (subst (λ k. t.cursors REMEMBERED_CURSOR + k < s.limits.remember) rest.as_many room)
-              ∙ ap (λ z. entry_now u (record { 0 = z }) r.1) (sym n.2),
+              ∙ ap (λ z. entry_now s.limits.blocks u (record { 0 = z }) r.1) (sym n.2),
           rest.are,
         );
         as_many = let same = rest.as_many in omega (arith, same);

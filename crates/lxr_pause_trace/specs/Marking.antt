@@ -6,7 +6,6 @@ use Rattle.lxr_layout.specs.declared.limits.Limits.{Limits}
 use Rattle.lxr_layout.specs.declared.Place.{Place}
 use Rattle.lxr_layout.specs.declared.Header.{Header}
 use Rattle.lxr_layout.specs.declared.Header.TheVariants.{Object, Moved}
-use Rattle.lxr_layout.specs.Spaces.{most_chosen}
 use Rattle.lxr_base.specs.Roomy.{pushed}
 use Rattle.lxr_image.specs.declared.space.Space.{Space}
 use Rattle.lxr_image.specs.Spaces.{IsSpace, tables_of}
@@ -15,7 +14,7 @@ use Rattle.lxr_image.specs.Reads.{StartsStandWhole, field_at, granule_of, header
 use Rattle.lxr_blocks.specs.declared.states.BlockState.TheVariants.{Free}
 use Rattle.lxr_blocks.specs.States.{state_in}
 use Rattle.lxr_invariant.specs.Counting.{passing}
-use Rattle.lxr_invariant.specs.Lines.{NoneChosen, chosen_count}
+use Rattle.lxr_invariant.specs.Lines.{NoneChosen}
 use Rattle.lxr_invariant.specs.Tracing.{HasOverflowed}
 use Rattle.lxr_remset.specs.Remembering.{AreEntries, entry_now, is_in_chosen, with_remembered_of}
 
@@ -66,7 +65,7 @@ pub record IsFound (t : Tables) (q : ℕ) : Type 0 where
 
 -- reference i of the object at a place has an entry with the reuse counter that its line has now
 abbrev pub IsEntered : Limits → Tables → ℕ → ℕ → Type 0
-IsEntered l t p i = (k : ℕ) × (k < t.cursors REMEMBERED_CURSOR) × (k < l.remember) × (t.remembered k ≡ entry_now t (record { 0 = p }) i)
+IsEntered l t p i = (k : ℕ) × (k < t.cursors REMEMBERED_CURSOR) × (k < l.remember) × (t.remembered k ≡ entry_now l.blocks t (record { 0 = p }) i)
 
 -- Reference i of the object at a place, which holds another place, is scanned: what it holds is found, and where that stands in a Chosen
 -- block, the reference is remembered, unless the set has overflowed.
@@ -98,7 +97,7 @@ pub record IsWaiting (before now : Tables) (p : ℕ) : Type 0 where
 
 -- A number of the remembered set has the entry of a reference of an object that was left to mark and is marked. The reference leads into
 -- a Chosen block, and is none of those that are scanned later.
-pub record HasEntryAt (before now : Tables) (IsLater : ℕ → ℕ → Type 0) (k : ℕ) : Type 0 where
+pub record HasEntryAt (l : Limits) (before now : Tables) (IsLater : ℕ → ℕ → Type 0) (k : ℕ) : Type 0 where
   pub place : ℕ
   pub index : ℕ
   pub held : ℕ
@@ -107,7 +106,7 @@ pub record HasEntryAt (before now : Tables) (IsLater : ℕ → ℕ → Type 0) (
   pub placed : 1 ≤ held
   pub holds : field_at before place index ≡ Some held
   pub chosen : IsTrue (is_in_chosen now (record { 0 = held }))
-  pub entry : now.remembered k ≡ entry_now now (record { 0 = place }) index
+  pub entry : now.remembered k ≡ entry_now l.blocks now (record { 0 = place }) index
 
 -- a reference of an object that was left to mark and is marked; it leads into a Chosen block, and is none of those that are scanned later
 pub record IsPassed (before now : Tables) (IsLater : ℕ → ℕ → Type 0) (place index : ℕ) : Type 0 where
@@ -123,11 +122,11 @@ pub record IsPassed (before now : Tables) (IsLater : ℕ → ℕ → Type 0) (pl
 abbrev pub AreEnteredAt : Limits → Tables → Tables → (ℕ → ℕ → Type 0) → ℕ → List (ℕ × ℕ) → Type 0
 AreEnteredAt l before now IsLater from [] = ⊤
 AreEnteredAt l before now IsLater from (r ∷ rs) = IsPassed before now IsLater r.0 r.1 × ¬ Contains rs r
-    × (from + length rs < l.remember → now.remembered (from + length rs) ≡ entry_now now (record { 0 = r.0 }) r.1) × AreEnteredAt l before now IsLater from rs
+    × (from + length rs < l.remember → now.remembered (from + length rs) ≡ entry_now l.blocks now (record { 0 = r.0 }) r.1) × AreEnteredAt l before now IsLater from rs
 
 -- only such references were remembered since, and none of them twice; and for each one number was drawn
 pub record EntersOnly (l : Limits) (before now : Tables) (IsLater : ℕ → ℕ → Type 0) : Type 0 where
-  pub only : (k : ℕ) → before.cursors REMEMBERED_CURSOR ≤ k → k < now.cursors REMEMBERED_CURSOR → k < l.remember → HasEntryAt before now IsLater k
+  pub only : (k : ℕ) → before.cursors REMEMBERED_CURSOR ≤ k → k < now.cursors REMEMBERED_CURSOR → k < l.remember → HasEntryAt l before now IsLater k
   pub once : (j k : ℕ) → before.cursors REMEMBERED_CURSOR ≤ j → j < k → k < now.cursors REMEMBERED_CURSOR → k < l.remember → now.remembered j ≢ now.remembered k
   pub entered : List (ℕ × ℕ)
   pub are : AreEnteredAt l before now IsLater (before.cursors REMEMBERED_CURSOR) entered
@@ -171,7 +170,6 @@ pub record MarkingStage (before s : Space) (end : ℕ) (pending : ℕ → ℕ �
   pub space : IsSpace s
   pub traceable : IsTraceable (tables_of before) before.limits.blocks
   pub far : CountsFar (tables_of before) before.limits.blocks
-  pub few_chosen : chosen_count (tables_of before) before.limits.blocks ≤ most_chosen before.limits.blocks
   pub so_far : IsMarkedSoFar (tables_of before) (tables_of s)
   pub ended : (k : ℕ) → k < end → IsTrue ((tables_of s).grays k) → IsTrue ((tables_of s).marks k)
   pub waiting : (p : Place) → Contains s.work.items p → IsWaiting (tables_of before) (tables_of s) p.0

@@ -1,7 +1,7 @@
 -- Where nothing is dead, all holds of a trace that begins: roots are gray, nothing is marked, and each reference is still to be scanned. Which
 -- blocks are Chosen is nothing to it, since nothing is scanned yet.
 -- Garbage that isn't stuck has a reference, and only from garbage.
-use Rattle.std.proofs.Common.{◌≡◌, ℕ, ◌+◌, ◌*◌, ◌^◌, ◌≤◌, refl, sym, ap, subst, ◌∙◌, inl, inr, ◌⊎◌, arith, Bool, true, false, List, [], IsTrue}
+use Rattle.std.proofs.Common.{◌≡◌, ℕ, ◌+◌, ◌*◌, ◌≤◌, refl, sym, ap, subst, ◌∙◌, inl, inr, ◌⊎◌, arith, Bool, true, false, List, [], IsTrue}
 use Rattle.std.specs.Prelude.{◌&&◌, filter, is_some}
 use Rattle.std.proofs.lemmas.Bool.{and_from, and_parts}
 use Rattle.std.proofs.lemmas.List.Kept.{IsStrictlySortedBy-filter}
@@ -158,12 +158,12 @@ module _ (before after : Space) (states entries cursors : ℕ → ℕ) (m : Mome
   }
 
   -- the references of the snapshot's objects are at most the heap's words
-  few : rememberable trace listed.names ≤ most_remembered after.limits.blocks * (m.number + 1)
+  few : rememberable trace listed.names ≤ most_remembered after.limits * (m.number + 1)
   few =
       let within : (x : Name) → IsTrue (has listed.names x) → IsTrue (has _ x) = λ x h. in_first m.unreclaimed m.made x (stands x ((listed.are.members x).0 h)) in
       let fit = references_fit (tables_of after) after.limits.blocks at m.state.graph _ begins.holds.image.image listed.names (in_order_distinct listed.names listed.are.in_order) within in
-      let first : rememberable trace listed.names ≤ most_remembered after.limits.blocks * (0 + 1) = omega (arith, fit) in
-      parts_later (most_remembered after.limits.blocks) (rememberable trace listed.names) 0 m.number first (omega arith)
+      let first : rememberable trace listed.names ≤ most_remembered after.limits * (0 + 1) = omega (arith, fit) in
+      parts_later (most_remembered after.limits) (rememberable trace listed.names) 0 m.number first (omega arith)
 
   begun : TraceHolds after.limits u [] (record { moment = m; at = at; reported = reported }) trace
   begun = record {

@@ -1,11 +1,10 @@
 -- Increments, the queue and deferred roots keep a trace. What is promoted is marked where it stands now; it was made since the last pause,
 -- so it is younger than the trace and refers to no garbage. What an old value was of is gray; it was reachable at the last pause, so it is no
 -- garbage. All that was unreclaimed stands where it did, since only what is promoted moves.
-use Rattle.std.proofs.Common.{◌≡◌, ◌≢◌, ℕ, ◌+◌, ◌*◌, ◌/◌, ◌^◌, ◌<◌, ◌≤◌, refl, sym, ap, subst, ◌∙◌, inl, inr, ◌⊎◌, arith, true, false, List, [], IsTrue, length}
+use Rattle.std.proofs.Common.{◌≡◌, ◌≢◌, ℕ, ◌+◌, ◌*◌, ◌/◌, ◌<◌, ◌≤◌, refl, sym, ap, subst, ◌∙◌, inl, inr, ◌⊎◌, arith, true, false, List, [], IsTrue, length}
 use Rattle.std.specs.Prelude.{Bool, Some, is_some, map, slice_get}
 use Rattle.std.proofs.lemmas.Bool.{false_from_ne_true}
 use Rattle.std.proofs.lemmas.List.{length-map}
-use Rattle.std.proofs.lemmas.Nat.{mul-le}
 use Rattle.std.proofs.lemmas.List.Sorted.{length_permutation}
 use Rattle.std.proofs.lemmas.Option.{slice_get_within}
 use Rattle.lxr_layout.specs.declared.Name.{Name}
@@ -295,7 +294,7 @@ module _ (found raised queued : Space) (g : AbstractState) (at' : Name → ℕ) 
     fields = λ n v i k scan e bit chosen. still_remembered n i (fields n v i k scan e (chosen_raised v chosen));
     entries = λ k drawn within.
         let r = raises.remembers.entries is.remembered.entries k (subst (λ z. k < z) cursor drawn) within in
-        (r.0, r.1, r.2, record { is = ap (λ f. f k) queues.keeps.remembered ∙ r.3.is; small = r.3.small; entry = r.3.entry; in_heap = r.3.in_heap });
+        (r.0, r.1, r.2, record { is = ap (λ f. f k) queues.keeps.remembered ∙ r.3.is; entry = r.3.entry; in_heap = r.3.in_heap });
     bound =
         let bound = is.remembered.bound in
         let same = cursor in
@@ -304,27 +303,26 @@ module _ (found raised queued : Space) (g : AbstractState) (at' : Name → ℕ) 
         omega (arith, bound, same, drawn, fewer, more);
   }
 
-  -- no more references are promoted than the heap has words, and at most 2 ^ 20 were stored to
+  -- no more references are promoted than the heap has words, nor stored to than the logs have room for
   few_promoted : reference_slots m.state.graph promoted ≤ WORDS_IN_BLOCK * raised.limits.blocks
   few_promoted =
       let fit = references_fit (tables_of raised) raised.limits.blocks at' m.state.graph all raises.raised.image promoted raises.raised.raised.promoted_once (λ x p. union_left promoted m.unreclaimed x p) in
       omega (arith, fit)
 
-  few_written : length m.written ≤ 2 ^ 20
+  few_written : length m.written ≤ found.limits.threads * found.limits.log
   few_written =
       let same = length_permutation (map (entry_of m at) m.written) found.logged.items holds.logs in
       let mapped = length-map m.written (entry_of m at) in
       let few = holds.few_logs in
-      let product : found.limits.threads * found.limits.log ≤ 16 * 65536 = mul-le found.limits.threads found.limits.log 16 65536 holds.space.limits.threads.1 holds.space.limits.log.1 in
-      omega (arith, same, mapped, few, product)
+      omega (arith, same, mapped, few)
 
-  few : rememberable goes_on is.snapshot ≤ most_remembered found.limits.blocks * (now.number + 1)
+  few : rememberable goes_on is.snapshot ≤ most_remembered found.limits * (now.number + 1)
   few =
       let p = few_promoted in
       let w = few_written in
       let same : raised.limits.blocks ≡ found.limits.blocks = ap (λ z. z.limits.blocks) raises.space in
-      let adds : reference_slots m.state.graph promoted + length m.written ≤ most_remembered found.limits.blocks = omega (arith, p, w, same) in
-      let next = part_more (most_remembered found.limits.blocks) (rememberable trace is.snapshot) (reference_slots m.state.graph promoted + length m.written) m.number is.few adds in
+      let adds : reference_slots m.state.graph promoted + length m.written ≤ most_remembered found.limits = omega (arith, p, w, same) in
+      let next = part_more (most_remembered found.limits) (rememberable trace is.snapshot) (reference_slots m.state.graph promoted + length m.written) m.number is.few adds in
       omega (arith, more, next)
 
   holds_on : TraceHolds queued.limits u [] (record g { moment = now; at = at' }) goes_on
@@ -335,7 +333,7 @@ module _ (found raised queued : Space) (g : AbstractState) (at' : Name → ℕ) 
     inside = stay_inside;
     handled = λ x n k done f. not_both (u.dones (granule_of (at' x))) done (queues.undecremented.none_done (granule_of (at' x)));
     remembered = subst (λ l. IsRememberedSoFar l u now at' goes_on is.snapshot) (sym limits) remembered;
-    few = subst (λ l. rememberable goes_on is.snapshot ≤ most_remembered l.blocks * (now.number + 1)) (sym limits) few;
+    few = subst (λ l. rememberable goes_on is.snapshot ≤ most_remembered l * (now.number + 1)) (sym limits) few;
   }
 
 pub counting_keeps : CountingKeepsTrace

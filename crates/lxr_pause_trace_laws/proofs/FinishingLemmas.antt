@@ -169,7 +169,7 @@ module _ (before after : Space) (g : AbstractState) (trace : Trace) (gone : List
         ];
     entries = λ k drawn within.
         let r = is.remembered.entries k (subst (λ z. k < z) cursor drawn) within in
-        (r.0, r.1, r.2, record { is = ap (λ f. f k) finishes.keeps.remembered ∙ r.3.is; small = r.3.small; entry = r.3.entry; in_heap = r.3.in_heap });
+        (r.0, r.1, r.2, record { is = ap (λ f. f k) finishes.keeps.remembered ∙ r.3.is; entry = r.3.entry; in_heap = r.3.in_heap });
     bound =
         let bound = is.remembered.bound in
         let same = cursor in
@@ -185,7 +185,7 @@ module _ (before after : Space) (g : AbstractState) (trace : Trace) (gone : List
     inside = stay_inside;
     handled = λ x n k done f. not_both (u.dones (granule_of (at x))) done (finishes.undecremented.none_done (granule_of (at x)));
     remembered = subst (λ z. IsRememberedSoFar z.limits u now at trace is.snapshot) (sym finishes.space) remembered;
-    few = subst (λ z. rememberable trace is.snapshot ≤ most_remembered z.limits.blocks * (now.number + 1)) (sym finishes.space) is.few;
+    few = subst (λ z. rememberable trace is.snapshot ≤ most_remembered z.limits * (now.number + 1)) (sym finishes.space) is.few;
   }
 
 pub finishing_keeps : FinishingKeepsTrace

@@ -32,5 +32,5 @@ remembered_still l t u at n i remembered reuse cursor (k, drawn, within, is) = (
   k,
   subst (λ z. k < z) (sym cursor) drawn,
   within,
-  ap (λ f. f k) remembered ∙ is ∙ ap (λ f. word_of_entry (f (word_of_field at n i / WORDS_IN_LINE)) (record { 0 = at n }) i) (sym reuse),
+  ap (λ f. f k) remembered ∙ is ∙ ap (λ f. word_of_entry l.blocks (f (word_of_field at n i / WORDS_IN_LINE)) (record { 0 = at n }) i) (sym reuse),
 )

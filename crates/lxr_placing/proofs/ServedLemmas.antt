@@ -323,7 +323,7 @@ module _ (space after : Space) (g : AbstractState) (thread dest : ℕ) (place : 
         lines = subst (λ z. LinesAreOut z h to then.made) (sym same) lines_out;
         unchosen = subst (λ z. AvoidChosen z to then.made) (sym same) made_unchosen;
         unused = subst (λ z. FreeAreUnused z to m.unreclaimed) (sym same) unused_served;
-        blocks = subst (λ z. HasBlocks z space.limits.blocks m.trace) (sym same) (blocks_kept (tables_of space) tables space.limits.blocks m.trace placed.states refl d.blocks);
+        blocks = subst (λ z. HasBlocks z space.limits m.trace) (sym same) (blocks_kept (tables_of space) tables space.limits m.trace placed.states refl d.blocks);
         rest = rest_served;
         no_work = d.no_work;
       }
@@ -381,7 +381,7 @@ placed_rests before after g thread dest shape p is within small fits name at_pla
     (rests_served before after g thread dest p shape is row fits name follows placed by_lines)
 
 -- a thread's number and a serial of 32 bits make a name
-is_name : (name : Name) (threads : ℕ) → name.thread ≤ threads → threads ≤ 16 → name.serial < 2 ^ 32 → IsName name
+is_name : (name : Name) (threads : ℕ) → name.thread ≤ threads → threads ≤ 255 → name.serial < 2 ^ 32 → IsName name
 is_name name threads within few serial = record { thread = omega arith; serial = serial }
 
 -- so it is whatever the space stood for

@@ -194,8 +194,8 @@ module _ (t : Tables) (heap : ℕ → ℕ) (outs : ℕ → Bool) (reuse states :
     k,
     drawn,
     room,
-    subst (λ z. t.remembered k ≡ word_of_entry (reuse (field_word z i / WORDS_IN_LINE)) (record { 0 = z }) i) (sym (kept_at n h))
-        (word ∙ ap (λ c. word_of_entry c (record { 0 = g.at n }) i) (sym (counter_still n i h within))),
+    subst (λ z. t.remembered k ≡ word_of_entry l.blocks (reuse (field_word z i / WORDS_IN_LINE)) (record { 0 = z }) i) (sym (kept_at n h))
+        (word ∙ ap (λ c. word_of_entry l.blocks c (record { 0 = g.at n }) i) (sym (counter_still n i h within))),
   )
   entry_still l n i h within (inr over) = inr over
 

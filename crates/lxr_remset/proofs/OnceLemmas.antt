@@ -47,6 +47,7 @@ entered_alike l k t u m now IsOne from (f ∷ fields) limits remembered reuse st
   are.2,
   λ room.
       ap (λ g. g (from + length fields)) remembered ∙ are.3 (subst (λ z. from + length fields < z.remember) limits room)
-      ∙ ap (λ g. word_of_entry (g (word_of_field now f.0 f.1 / WORDS_IN_LINE)) (place_of now f.0) f.1) (sym reuse),
+      ∙ ap (λ g. word_of_entry l.blocks (g (word_of_field now f.0 f.1 / WORDS_IN_LINE)) (place_of now f.0) f.1) (sym reuse)
+      ∙ ap (λ (z : Limits). word_of_entry z.blocks (u.reuse (word_of_field now f.0 f.1 / WORDS_IN_LINE)) (place_of now f.0) f.1) (sym limits),
   entered_alike l k t u m now IsOne from fields limits remembered reuse states are.4,
 )

@@ -2,6 +2,7 @@
 ghost use Rattle.std.specs.Prelude.{◌≡◌, ◌↔◌, ◌*◌, ◌^◌, ◌<◌, ◌≤◌, ℕ, IsTrue};
 ghost use Rattle.lxr_layout.specs.declared.TheConstants.{GRANULES_IN_BLOCK, REMEMBERED_CURSOR};
 ghost use Rattle.lxr_layout.specs.declared.Place.{Place as PlaceOf};
+ghost use Rattle.lxr_layout.specs.Runs.{kept_counter};
 ghost use Rattle.lxr_image.specs.Reads.{granule_of};
 ghost use Rattle.lxr_image.specs.Spaces.{IsSpace, Turns, tables_of};
 ghost use Rattle.lxr_invariant.specs.Tracing.{HasOverflowed, IsEntryWord};
@@ -11,6 +12,7 @@ use lxr_blocks::{BlockState, state};
 use lxr_image::Space;
 use lxr_layout::{
     Place, REMEMBERED_CURSOR, WORDS_IN_LINE, block_of, entry_of, entry_word, field_word,
+    kept_counter,
 };
 
 /// How a reference was remembered.
@@ -39,7 +41,8 @@ pub fn remember(space: &mut Space, place: Place, index: u16) -> Remembered
         return Remembered::Full;
     }
     let counter = space.reuse(field_word(place, index) / WORDS_IN_LINE);
-    space.put_remembered(number as u32, entry_word(counter, place, index));
+    let entry = entry_word(space.limits.blocks, counter, place, index);
+    space.put_remembered(number as u32, entry);
     Remembered::Kept
 }
 
@@ -58,14 +61,18 @@ pub fn remember_chosen(space: &mut Space, place: Place, index: u16, held: Place)
     }
 }
 
-/// Whether the line of an entry's reference has the reuse counter that the entry has: the line wasn't handed out since.
+/// Whether the line of an entry's reference has the reuse counter that the entry has, as far as entries keep it. Then the line
+/// wasn't handed out since, or so often that what is kept came round: 2^32 times, in a heap of more than `MOST_BLOCKS_OF_SMALL`
+/// blocks 2^26.
 pub fn is_current(space: &Space, entry: u64) -> bool
     requires space { IsSpace space.now }
     requires entry { (counter : ℕ) × (place : PlaceOf) × (index : ℕ) × IsEntryWord space.now.limits entry counter place index }
-    ensures { (counter : ℕ) (place : PlaceOf) (index : ℕ) → IsEntryWord space.now.limits entry counter place index → (IsTrue result ↔ (counter ≡ (tables_of space.now).reuse (line_of_field place index))) }
+    ensures { (counter : ℕ) (place : PlaceOf) (index : ℕ) → IsEntryWord space.now.limits entry counter place index → (IsTrue result ↔ (kept_counter space.now.limits.blocks counter ≡ kept_counter space.now.limits.blocks ((tables_of space.now).reuse (line_of_field place index)))) }
 {
-    let (counter, place, index) = entry_of(entry);
-    counter == space.reuse(field_word(place, index) / WORDS_IN_LINE)
+    let blocks = space.limits.blocks;
+    let (counter, place, index) = entry_of(blocks, entry);
+    let now = space.reuse(field_word(place, index) / WORDS_IN_LINE);
+    counter == kept_counter(blocks, now)
 }
 
 /// Whether more references were to be remembered than the set has room for, since it was cleared.

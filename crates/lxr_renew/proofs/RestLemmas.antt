@@ -102,7 +102,7 @@ module _ (s mid : Space) (σ : State) (number : ℕ) (ns stuck : List Name) (at 
     lines = λ n o k h. no_member n h;
     unchosen = λ n h. no_member n h;
     unused = subst (λ (x : Tables). FreeAreUnused x at' (map rn us)) (sym same) (unused_renewed threads t heap s.limits.blocks σ at ns order left few old.image.image writes number stuck old.follows.stuck old.unused);
-    blocks = subst (λ (x : Tables). HasBlocks x s.limits.blocks None) (sym same) (blocks_still t (with_heads t heap) s.limits.blocks None refl refl old.blocks);
+    blocks = subst (λ (x : Tables). HasBlocks x s.limits None) (sym same) (blocks_still t (with_heads t heap) s.limits None refl refl old.blocks);
     rest = record {
       rest = rest_still s after refl refl refl (ap (λ (x : Tables). x.outs) same) (ap (λ (x : Tables). x.states) same) old.rest.rest;
       apart = rest_renewed threads t heap s.limits.blocks σ at ns order left few old.image.image writes number stuck old.follows.stuck s after refl refl old.rest.apart;

@@ -5,7 +5,7 @@ use Rattle.std.specs.Prelude.{Some, None, IsTrue}
 use Rattle.lxr_layout.specs.declared.Name.{Name}
 use Rattle.lxr_layout.specs.declared.Shape.{Shape}
 use Rattle.lxr_layout.specs.Objects.{FitsShape, line_count}
-use Rattle.lxr_layout.specs.Spaces.{most_chosen}
+use Rattle.lxr_layout.specs.declared.limits.Limits.{Limits}
 use Rattle.lxr_graph.specs.Names.{IsSetOf, has, union, without}
 use Rattle.lxr_graph.specs.State.{world_name}
 use Rattle.lxr_graph.specs.declared.Op.TheVariants as op
@@ -29,6 +29,7 @@ use Rattle.lxr_full.proofs.RoomLemmas.{collected_full_leaves_no_run, roomless_bl
 use Rattle.lxr_full.proofs.WorldLemmas.{world_keeps_shape}
 use Rattle.lxr_rounds_history.specs.Plan.{Plan}
 use Rattle.lxr_rounds_history.specs.Histories.{script_terms_with}
+use Rattle.lxr_rounds_history.specs.Left.{plan_limits}
 
 -- right after a collecting pause nothing is made yet
 pub none_made : (threads : ℕ) (h : List Item) → IsRightAfterCollecting h → (moment threads h).made ≡ []
@@ -71,20 +72,20 @@ may_be_refused renews plan script h s g t dest shape legal after between is bloc
 
 -- for one that finds none a collecting pause may stand, behind which it comes
 pub is_waited_for : (renews : Bool) (plan : Plan) (script : Script) (h : List Item) (s : Space) (g : AbstractState) (t dest : ℕ) (shape : Shape) (r : Reply) → IsLegalSoFar (script_terms_with renews plan script) h
-    → IsQuiescent s g → g.moment ≡ moment (length script) h → s.limits.blocks ≡ plan.blocks → FitsShape shape → IsFull s shape → IsWaitedFor (script_terms_with renews plan script) h (Call t (op.New dest shape) r)
-is_waited_for renews plan script h s g t dest shape r legal between is blocks fits full =
+    → IsQuiescent s g → g.moment ≡ moment (length script) h → s.limits ≡ plan_limits plan (length script) → FitsShape shape → IsFull s shape → IsWaitedFor (script_terms_with renews plan script) h (Call t (op.New dest shape) r)
+is_waited_for renews plan script h s g t dest shape r legal between is limits fits full =
     let world : HasWorld (moment (length script) h).state.graph = world_keeps_shape (script_terms_with renews plan script) h legal in
-    let taken : LeaveNoRun g.moment.state.graph (without (union g.moment.made g.moment.unreclaimed) (world_name ∷ [])) (s.limits.blocks - most_chosen s.limits.blocks) (line_count shape) =
+    let taken : LeaveNoRun g.moment.state.graph (without (union g.moment.made g.moment.unreclaimed) (world_name ∷ [])) (s.limits.blocks - s.limits.evacuate) (line_count shape) =
     waiting_may_collect s g shape between (subst (λ (m : Moment). HasWorld m.state.graph) (sym is) world) fits full in
-    subst (λ (m : Moment). LeaveNoRun m.state.graph (without (union m.made m.unreclaimed) (world_name ∷ [])) (plan.blocks - most_chosen plan.blocks) (line_count shape)) is
-    (subst (λ b. LeaveNoRun g.moment.state.graph (without (union g.moment.made g.moment.unreclaimed) (world_name ∷ [])) (b - most_chosen b) (line_count shape)) blocks taken)
+    subst (λ (m : Moment). LeaveNoRun m.state.graph (without (union m.made m.unreclaimed) (world_name ∷ [])) (plan.blocks - plan.evacuate) (line_count shape)) is
+    (subst (λ (l : Limits). LeaveNoRun g.moment.state.graph (without (union g.moment.made g.moment.unreclaimed) (world_name ∷ [])) (l.blocks - l.evacuate) (line_count shape)) limits taken)
 
 -- and one that finds none is a cause of a pause
 pub room_cause : (renews : Bool) (plan : Plan) (script : Script) (h : List Item) (s : Space) (g : AbstractState) (t dest : ℕ) (shape : Shape) → 1 ≤ t → t ≤ length script
-    → next_operation script t h ≡ Some (op.New dest shape) → IsQuiescent s g → g.moment ≡ moment (length script) h → s.limits.blocks ≡ plan.blocks → FitsShape shape → IsFull s shape
+    → next_operation script t h ≡ Some (op.New dest shape) → IsQuiescent s g → g.moment ≡ moment (length script) h → s.limits ≡ plan_limits plan (length script) → FitsShape shape → IsFull s shape
     → HasCause (script_terms_with renews plan script) script h
-room_cause renews plan script h s g t dest shape low high next between is blocks fits full =
-    let taken : s.limits.blocks - most_chosen s.limits.blocks ≤ length g.moment.unreclaimed + length g.moment.made = roomless_blocks_are_taken s g shape between fits full in
-    let here : s.limits.blocks - most_chosen s.limits.blocks ≤ length (moment (length script) h).unreclaimed + length (moment (length script) h).made =
-    subst (λ (m : Moment). s.limits.blocks - most_chosen s.limits.blocks ≤ length m.unreclaimed + length m.made) is taken in
-    inr (t, low, high, inr (inr (inl (subst (λ x. IsTrue (is_new x)) (sym next) refl, subst (λ b. b - most_chosen b ≤ length (moment (length script) h).unreclaimed + length (moment (length script) h).made) blocks here))))
+room_cause renews plan script h s g t dest shape low high next between is limits fits full =
+    let taken : s.limits.blocks - s.limits.evacuate ≤ length g.moment.unreclaimed + length g.moment.made = roomless_blocks_are_taken s g shape between fits full in
+    let here : s.limits.blocks - s.limits.evacuate ≤ length (moment (length script) h).unreclaimed + length (moment (length script) h).made =
+    subst (λ (m : Moment). s.limits.blocks - s.limits.evacuate ≤ length m.unreclaimed + length m.made) is taken in
+    inr (t, low, high, inr (inr (inl (subst (λ x. IsTrue (is_new x)) (sym next) refl, subst (λ (l : Limits). l.blocks - l.evacuate ≤ length (moment (length script) h).unreclaimed + length (moment (length script) h).made) limits here))))

@@ -11,6 +11,7 @@ abbrev pub plan_terms : Bool → Plan → ℕ → Terms
 plan_terms renews plan threads = record {
   threads = threads;
   blocks = plan.blocks;
+  evacuate = plan.evacuate;
   every = plan.every;
   log = plan.log;
   trace = plan.trace;

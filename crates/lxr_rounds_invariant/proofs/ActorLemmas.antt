@@ -1,8 +1,9 @@
 -- What mutators that rest have done, as the history has it.
-use Rattle.std.proofs.Common.{◌≡◌, ◌≢◌, ℕ, zero, suc, ◌+◌, ◌-◌, ◌*◌, ◌<◌, ◌≤◌, ◌⊎◌, refl, sym, ap, subst, ◌∙◌, inl, inr, ⊎_elim, arith, List, [], ◌∷◌, ◌++◌, length, map, take}
-use Rattle.std.specs.Prelude.{Bool, Some, slice_get, slice_set, slice_index_or}
+use Rattle.std.proofs.Common.{◌≡◌, ◌≢◌, ℕ, zero, suc, ◌+◌, ◌-◌, ◌*◌, ◌/◌, ◌^◌, ◌<◌, ◌≤◌, ◌⊎◌, refl, sym, ap, subst, ◌∙◌, inl, inr, ⊎_elim, arith, List, [], ◌∷◌, ◌++◌, length, map, take}
+use Rattle.std.specs.Prelude.{Bool, true, false, Some, if◌then◌else◌, nat_le, slice_get, slice_set, slice_index_or}
 use Rattle.std.specs.Option.{option_map}
 use Rattle.std.specs.List.{All, count_by}
+use Rattle.std.proofs.lemmas.Bool.Decides.{nat_tests}
 use Rattle.std.proofs.lemmas.List.{length_push, take_all}
 use Rattle.std.proofs.lemmas.List.Elements.{All-weaker}
 use Rattle.std.proofs.lemmas.Option.{get_or_from_slice_get, slice_get-map, slice_get_within}
@@ -13,6 +14,7 @@ use Rattle.lxr_graph.specs.History.{Item, calls_of, replies_of}
 use Rattle.lxr_model.specs.Belongs.{Script, operations_of}
 use Rattle.lxr_model.specs.Kinds.{ends}
 use Rattle.lxr_model.specs.Legal.{IsLegalSoFar}
+use Rattle.lxr_mutator.specs.Dialogues.{most_operations}
 use Rattle.lxr_mutator.specs.Mutating.{Mutating}
 use Rattle.lxr_mutator.specs.Mutators.{IsMutator, IsOperation, IsThrough}
 use Rattle.lxr_mutator.specs.Naming.{blank}
@@ -213,13 +215,30 @@ left_falls script before after was is within within' more =
 pub left_less : (task : Task) (h h' : List Item) (before after : List Mutating) → HaveMutators task h before → HaveMutators task h' after → done_of before < done_of after → left_of after < left_of before
 left_less task h h' before after have have' more = left_falls task.script before after have.script have'.script (are_within task h before have) (are_within task h' after have') more
 
--- threads do so many operations and ends at most
-pub done_few : (mutators : List Mutating) → ((i : ℕ) (a : Mutating) → slice_get mutators i ≡ Some a → length a.replies.items ≤ MOST_OPERATIONS + 1) → done_of mutators ≤ (MOST_OPERATIONS + 1) * length mutators
-done_few [] each = omega arith
-done_few (a ∷ mutators) each =
+-- of the first 16 threads each has more than the others
+share_by : (k : ℕ) (first : Bool) → nat_le (k + 1) 16 ≡ first
+    → (if first then MOST_OPERATIONS else MOST_OPERATIONS / 16) + 2 + (MOST_OPERATIONS - MOST_OPERATIONS / 16) * (16 - (k + 1)) ≤ MOST_OPERATIONS / 16 + 2 + (MOST_OPERATIONS - MOST_OPERATIONS / 16) * (16 - k)
+share_by k true is = let low : k + 1 ≤ 16 = grind (arith, nat_tests) in omega arith
+share_by k false is = omega arith
+
+share_of : (k : ℕ) → most_operations (k + 1) + 2 + (MOST_OPERATIONS - MOST_OPERATIONS / 16) * (16 - (k + 1)) ≤ MOST_OPERATIONS / 16 + 2 + (MOST_OPERATIONS - MOST_OPERATIONS / 16) * (16 - k)
+share_of k = share_by k (nat_le (k + 1) 16) refl
+
+-- so threads after the first k do so many operations and ends at most
+done_after : (k : ℕ) (mutators : List Mutating) → ((i : ℕ) (a : Mutating) → slice_get mutators i ≡ Some a → length a.replies.items ≤ most_operations (k + (i + 1)) + 2)
+    → done_of mutators ≤ (MOST_OPERATIONS / 16 + 2) * length mutators + (MOST_OPERATIONS - MOST_OPERATIONS / 16) * (16 - k)
+done_after k [] each = omega arith
+done_after k (a ∷ mutators) each =
     let here = each 0 a refl in
-    let rest = done_few mutators (λ i b at. each (suc i) b at) in
+    let share = share_of k in
+    let rest = done_after (k + 1) mutators (λ i b at. subst (λ n. length b.replies.items ≤ most_operations n + 2) (omega arith) (each (suc i) b at)) in
     omega arith
+
+-- and 255 threads fewer than 2^31
+pub done_few : (mutators : List Mutating) → ((i : ℕ) (a : Mutating) → slice_get mutators i ≡ Some a → length a.replies.items ≤ most_operations (i + 1) + 2) → length mutators ≤ 255 → done_of mutators + 1 < 2 ^ 31
+done_few mutators each few =
+    let all = done_after 0 mutators (λ i a at. subst (λ n. length a.replies.items ≤ most_operations n + 2) (omega arith) (each i a at)) in
+    omega (arith, all, few)
 
 -- one mutator that is answered does one more
 pub done_more : (mutators : List Mutating) (i : ℕ) (a b : Mutating) → slice_get mutators i ≡ Some a → length b.replies.items ≡ length a.replies.items + 1

@@ -282,7 +282,7 @@ module _ (task : Task) (script : Script) (space mid after : Space) (seen : Optio
     news = closes.news;
     due = record {
       cause = subst (λ s. HasCause (terms_of asked) s execution.history) have.mutators.script
-          (closed.due.cause amid.all_listed (terms_of asked) (record { threads = sym threads; blocks = ap (λ (l : Limits). l.blocks) (sym limits); log = ap (λ (l : Limits). l.log) (sym limits); every = refl })
+          (closed.due.cause amid.all_listed (terms_of asked) (record { threads = sym threads; blocks = ap (λ (l : Limits). l.blocks) (sym limits); evacuate = ap (λ (l : Limits). l.evacuate) (sym limits); log = ap (λ (l : Limits). l.log) (sym limits); every = refl })
           (for_asked (λ n. IsLegalSoFar (plan_terms task.renews task.plan n) h) amid.come.history.0));
       early = early_extends task.renews task.plan script task.plan.every h execution.history extends (was_early task.renews task.plan script h fewer);
       owes_none = owes_extends (terms_of asked) (threads_of asked) task.plan.every h execution.history extends owes_none;

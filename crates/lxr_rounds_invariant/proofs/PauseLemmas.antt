@@ -1,7 +1,6 @@
 -- What a pause does to a run: its history has the pause.
 use Rattle.std.proofs.Common.{◌≡◌, ℕ, ◌+◌, ◌*◌, ◌^◌, ◌<◌, ◌≤◌, ◌↔◌, ◌⊎◌, refl, sym, ap, subst, ◌∙◌, inl, inr, arith, List, [], ◌∷◌, length, Bool, true, false, IsTrue}
 use Rattle.std.specs.Prelude.{Option, None, Some, slice_get}
-use Rattle.lxr_alloc.specs.declared.TheConstants.{MOST_OPERATIONS}
 use Rattle.lxr_layout.specs.declared.TheConstants.{GRANULES_IN_BLOCK}
 use Rattle.lxr_layout.specs.declared.Name.{Name}
 use Rattle.lxr_layout.specs.declared.limits.Limits.{Limits}
@@ -28,6 +27,7 @@ use Rattle.lxr_sights.specs.Sights.{Looks, Sight, sight_of}
 use Rattle.lxr_core.specs.declared.actors.AnyActor.{AnyActor}
 use Rattle.lxr_core.specs.Actors.{mutators_in}
 use Rattle.lxr_core.specs.Resting.{RestsAfter}
+use Rattle.lxr_mutator.specs.Dialogues.{most_operations}
 use Rattle.lxr_mutator.specs.Mutating.{Mutating}
 use Rattle.lxr_rounds_history.specs.Left.{StandsAfter}
 use Rattle.lxr_rounds_history.specs.Sights.{CountsEvacuated, MayMove, SeesTo}
@@ -44,20 +44,20 @@ use Rattle.lxr_rounds_invariant.proofs.KindLemmas.{kind_collects, kind_may_stand
 
 -- ---- numbers
 
--- each thread keeps so many replies at most
-replies_within : (task : Task) (h : List Item) (mutators : List Mutating) → HaveMutators task h mutators → (i : ℕ) (a : Mutating) → slice_get mutators i ≡ Some a → length a.replies.items ≤ MOST_OPERATIONS + 1
+-- each thread has as many replies as it may have operations, with its end and one to spare
+replies_within : (task : Task) (h : List Item) (mutators : List Mutating) → HaveMutators task h mutators → (i : ℕ) (a : Mutating) → slice_get mutators i ≡ Some a → length a.replies.items ≤ most_operations (i + 1) + 2
 replies_within task h mutators have i a at =
-    let sound = (have.rest.each i a at).mutator.sound in
-    let few = sound.setup.few in
-    let replies = sound.few_replies in
-    omega arith
+    let rests = have.rest.each i a at in
+    let room = rests.mutator.sound.setup.room in
+    let most : a.replies.room ≤ most_operations (i + 1) + 2 = subst (λ t. a.replies.room ≤ most_operations t + 2) rests.thread rests.mutator.sound.setup.most in
+    let replies = rests.mutator.sound.few_replies in
+    omega (arith, room, most, replies)
 
 -- so they do little together
-pub all_done_few : (task : Task) (h : List Item) (mutators : List Mutating) → HaveMutators task h mutators → threads_of task ≤ 16 → done_of mutators ≤ 16 * (MOST_OPERATIONS + 1)
+pub all_done_few : (task : Task) (h : List Item) (mutators : List Mutating) → HaveMutators task h mutators → threads_of task ≤ 255 → done_of mutators + 1 < 2 ^ 31
 all_done_few task h mutators have threads =
-    let each = done_few mutators (replies_within task h mutators have) in
     let many = as_many task h mutators have in
-    omega arith
+    done_few mutators (replies_within task h mutators have) (omega (arith, many, threads))
 
 -- pauses are numbered from 1, and those of a history are counted in the tally
 pub pauses_counted : (task : Task) (space : Space) (seen : Option (List Sight)) (h : List Item) (g : AbstractState)
@@ -70,8 +70,8 @@ pub logged_is : (task : Task) (space : Space) (seen : Option (List Sight)) (h : 
     → HasCome task space seen h g → length space.logged.items ≡ length (moment (threads_of task) h).written
 logged_is task space seen h g come = sym (log_is_written space g come.safepoint) ∙ ap (λ (m : Moment). length m.written) come.stands.moment
 
--- there are 16 threads at most
-pub few_threads : (task : Task) (space : Space) (seen : Option (List Sight)) (h : List Item) (g : AbstractState) → HasCome task space seen h g → threads_of task ≤ 16
+-- there are 255 threads at most
+pub few_threads : (task : Task) (space : Space) (seen : Option (List Sight)) (h : List Item) (g : AbstractState) → HasCome task space seen h g → threads_of task ≤ 255
 few_threads task space seen h g come =
     let limits = come.safepoint.holds.space.limits.threads in
     let same : space.limits.threads ≡ threads_of task = ap (λ (l : Limits). l.threads) come.limits in

@@ -210,7 +210,7 @@ full_cause task space seen t m collected served h g dest shape may is full =
     let come = may.come in
     let formed : IsWellFormed (op.New dest shape) = subst IsWellFormed is (formed_now m may.rests.mutator.sound) in
     room_cause task.renews task.plan task.script h space g t dest shape may.thread.0 may.thread.1 (next_is task space seen t m collected served h g may ∙ ap Some is) may.between come.stands.moment
-    (ap (λ (l : Limits). l.blocks) come.limits) formed.1 full
+    come.limits formed.1 full
 
 -- and that one may collect for it: this call keeps what such a pause promises
 pub full_promise : (task : Task) (space : Space) (seen : Option (List Sight)) (t : ℕ) (m : Mutating) (collected served : Bool) (h : List Item) (g : AbstractState) (dest : ℕ) (shape : Shape)
@@ -220,7 +220,7 @@ full_promise task space seen t m collected served h g dest shape may is full rep
     let come = may.come in
     let formed : IsWellFormed (op.New dest shape) = subst IsWellFormed is (formed_now m may.rests.mutator.sound) in
     let waited : IsWaitedFor (terms_of task) h (Call t (op.New dest shape) r) =
-    is_waited_for task.renews task.plan task.script h space g t dest shape r come.history.0 may.between come.stands.moment (ap (λ (l : Limits). l.blocks) come.limits) formed.1 full in
+    is_waited_for task.renews task.plan task.script h space g t dest shape r come.history.0 may.between come.stands.moment come.limits formed.1 full in
     λ stands. subst (λ o. IsWaitedFor (terms_of task) h (Call t o r)) (sym is) waited
 
 -- ---- the mutator with its reply

@@ -1,5 +1,5 @@
 -- Runs by the options of the command line: what they go by, and their histories.
-use Rattle.std.specs.Prelude.{false, List}
+use Rattle.std.specs.Prelude.{◌/◌, false, List}
 use Rattle.lxr_graph.specs.History.{Item}
 use Rattle.lxr_model.specs.Terms.{Terms}
 use Rattle.lxr_model.specs.Belongs.{Script}
@@ -11,6 +11,7 @@ use Rattle.lxr_rounds_history.specs.Histories.{IsHistoryWith, script_terms_with}
 abbrev pub plan_of : Options → Plan
 plan_of options = record {
   blocks = options.blocks;
+  evacuate = options.blocks / 8;
   log = options.log;
   remember = options.remember;
   every = options.every;

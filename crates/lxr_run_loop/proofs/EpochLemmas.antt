@@ -35,7 +35,6 @@ use Rattle.lxr_run_loop.specs.Tasks.{RunTask, rounds_of}
 use Rattle.lxr_rounds_invariant.specs.Laws.{beginning_of}
 use Rattle.lxr_rounds_invariant.proofs.ActorLemmas.{as_many}
 use Rattle.lxr_rounds_invariant.proofs.EpochLemmas.{epochs_run, may_open as epoch_begins}
-use Rattle.lxr_rounds_invariant.proofs.PauseLemmas.{few_threads}
 use Rattle.lxr_run_loop.specs.Drawing.{GoesOn}
 use Rattle.lxr_run_loop.specs.Orders.{NotesCalls}
 use Rattle.lxr_run_loop.specs.Progress.{HasMadeEpochInOrder, IsBetweenRounds}
@@ -72,7 +71,7 @@ module _ (task : RunTask) (space : Space) (written : Option (List ℕ)) (seen : 
     few =
         let all = lengths_add actors in
         let mutators = as_many (rounds_of task) h (mutators_in actors) amid.epochs.actors_rest.mutators in
-        let threads = few_threads (rounds_of task) space seen h g amid.epochs.come in
+        let threads = amid.threads in
         let workers = amid.epochs.actors_rest.workers in
         let few = amid.epochs.actors_rest.few in
         let tracers = amid.epochs.actors_rest.tracers in

@@ -1,6 +1,6 @@
 -- A run begins between two epochs: the space is opened, and each thread has its mutator.
-use Rattle.std.proofs.Common.{⊎_elim, inr, ◌⊎◌, ◌≡◌, ◌≢◌, ℕ, ◌+◌, ◌*◌, ◌≤◌, refl, sym, ap, subst, ◌∙◌, arith, false, List, [], ◌∷◌, ◌++◌, map, length, length-append}
-use Rattle.std.specs.Prelude.{Option, Some, replicate, slice_get}
+use Rattle.std.proofs.Common.{⊎_elim, inr, ◌≡◌, ◌≢◌, ℕ, ◌+◌, ◌*◌, ◌/◌, ◌≤◌, refl, sym, ap, subst, ◌∙◌, arith, Bool, true, false, List, [], ◌∷◌, ◌++◌, map, length, length-append}
+use Rattle.std.specs.Prelude.{Option, Some, if◌then◌else◌, nat_le, replicate, slice_get}
 use Rattle.std.specs.List.{All}
 use Rattle.std.proofs.lemmas.List.{append-nil, length-map, map-append}
 use Rattle.std.proofs.lemmas.List.Elements.{All-head, All-tail, All-weaker}
@@ -13,6 +13,7 @@ use Rattle.lxr_graph.specs.declared.Op.{Op}
 use Rattle.lxr_graph.specs.declared.Op.TheVariants as op
 use Rattle.lxr_text_script.specs.Limits.{IsScript, IsThread, IsWritten}
 use Rattle.lxr_text_script.specs.Limits as script
+use Rattle.lxr_mutator.specs.Dialogues.{most_operations}
 use Rattle.lxr_mutator.specs.Mutating.{Mutating}
 use Rattle.lxr_mutator.specs.Mutators.{HaveIndexes, IsFull, IsMutator, IsOperation, first}
 use Rattle.lxr_mutator.proofs.RegisterLemmas.{registers_cleared}
@@ -56,7 +57,7 @@ use Rattle.lxr_run_loop.proofs.TextLemmas.{told_none}
 indexes : (l : Limits) → AreLimits l → HaveIndexes (regions_of l)
 indexes l limits =
     let log : l.log + 16 ≤ 65552 = omega (arith, limits.log.1) in
-    let decs : l.threads * (l.log + 16) ≤ 16 * 65552 = mul-le-mul limits.threads.1 log in
+    let decs : l.threads * (l.log + 16) ≤ 255 * 65552 = mul-le-mul limits.threads.1 log in
     record {
       unlogged = omega arith;
       frees = omega arith;
@@ -64,15 +65,24 @@ indexes l limits =
       cursors = omega arith;
     }
 
+-- a thread of a script has no more operations than a thread of any number may have
+few_by : (n : ℕ) → n ≤ script.most_operations → (is_first : Bool) → n ≤ (if is_first then MOST_OPERATIONS else MOST_OPERATIONS / 16)
+few_by n few true = omega (arith, few)
+few_by n few false = omega (arith, few)
+
+pub few_written : (t n : ℕ) → n ≤ script.most_operations → n ≤ most_operations t
+few_written t n few = few_by n few (nat_le t 16)
+
 -- it keeps what holds of each mutator
-first_is : (l : Limits) (every t : ℕ) (operations : List Op) → AreLimits l → (1 ≤ t) × (t ≤ l.threads) → All IsOperation operations → length operations ≤ MOST_OPERATIONS → (1 ≤ every) × (every ≤ 1048576)
+first_is : (l : Limits) (every t : ℕ) (operations : List Op) → AreLimits l → (1 ≤ t) × (t ≤ l.threads) → All IsOperation operations → length operations ≤ script.most_operations → (1 ≤ every) × (every ≤ 1048576)
     → IsMutator (first t operations l every)
 first_is l every t operations limits thread each few range = record {
   setup = record {
     thread = (thread.0, omega (arith, limits.threads.1));
     operations = each;
-    few = few;
+    few = omega (arith, few);
     room = omega arith;
+    most = let within = few_written t (length operations) few in omega (arith, within);
     indexes = indexes l limits;
     every = range;
     before = omega arith;
@@ -156,7 +166,7 @@ made_pushed l every script taken rest o actors actors' m split is limits threads
     let alone = mutators_alone actors made.helpers in
     let many = as_many l every taken (mutators_in actors) made.mutators in
     let long = ap length split ∙ length-append taken (o ∷ rest) in
-    let sound = first_is l every (length actors + 1) o.items limits (omega arith, omega arith) (all_operations o.items thread) (let few = thread.count in omega (arith, few)) range in
+    let sound = first_is l every (length actors + 1) o.items limits (omega arith, omega arith) (all_operations o.items thread) thread.count range in
     let one_more = made_more l every taken o (mutators_in actors) m made.mutators (first_one ∙ ap (λ n. first (n + 1) o.items l every) alone) (subst IsMutator (sym first_one) sound) in
     let mutators : mutators_in (actors ++ any.Mutator m ∷ []) ≡ mutators_in actors ++ m ∷ [] = mutators_of_both actors (any.Mutator m ∷ []) in
     subst (AreMade l every 0 0 (map (λ (x : Roomy Op). x.items) (taken ++ o ∷ []))) (sym pushed)
@@ -190,7 +200,7 @@ run_fits options script ranges is =
     let many = length-map script (λ (x : Roomy Op). x.items) in
     let least = is.least in
     let greatest = is.greatest in
-    record { blocks = (ranges.blocks.0, let few = ranges.blocks.1 in omega (arith, few)); threads = (omega arith, omega arith); log = ranges.log; remember = ranges.remember }
+    record { blocks = (ranges.blocks.0, let few = ranges.blocks.1 in omega (arith, few)); threads = (omega arith, omega arith); log = ranges.log; remember = ranges.remember; evacuate = omega arith }
 
 -- nothing is noted yet
 none_noted : (command : Command) → IsOrderOf (opening_order command) []
@@ -235,4 +245,4 @@ opened_run options script limits space actors same ranges is made opened between
       tracers = helpers.tracers;
       few = ranges.workers.1;
     }) in
-    ([], opening_abstract_state limits.threads, record { epochs = between_epochs; text = subst (Appends written written) (sym (told_none options.command options.counts)) (Appends-nil written); full = λ i m at. subst IsFull (sym (made.mutators.each i m at)) (omega arith) }, at_opening space actors (subst (IsOpened space) of_task opened) (subst (λ l. AreMade l options.every options.workers options.workers task.script actors) of_task made), none_told options space)
+    ([], opening_abstract_state limits.threads, record { epochs = between_epochs; threads = is.greatest; text = subst (Appends written written) (sym (told_none options.command options.counts)) (Appends-nil written); full = λ i m at. subst IsFull (sym (made.mutators.each i m at)) (omega arith) }, at_opening space actors (subst (IsOpened space) of_task opened) (subst (λ l. AreMade l options.every options.workers options.workers task.script actors) of_task made), none_told options space)

@@ -218,8 +218,8 @@ answers_bring outcome.Collect collected mutators mutators' space space' h h' ans
 -- ---- as it is noted
 
 -- what is noted of the first actors is what their threads bring
-noted_of_first : (actors actors' : List AnyActor) (counts : List ℕ) (n : ℕ) → AreInOrder actors → AreInOrder actors' → n ≤ length (mutators_in actors) → length (mutators_in actors') ≡ length (mutators_in actors) → n ≤ 16
-    → ((i : ℕ) → i < 16 → slice_index counts i ≡ placed_at actors i) → calls_of_first counts actors' n ≡ calls_between (mutators_in actors) (mutators_in actors') n
+noted_of_first : (actors actors' : List AnyActor) (counts : List ℕ) (n : ℕ) → AreInOrder actors → AreInOrder actors' → n ≤ length (mutators_in actors) → length (mutators_in actors') ≡ length (mutators_in actors) → n ≤ 255
+    → ((i : ℕ) → i < 255 → slice_index counts i ≡ placed_at actors i) → calls_of_first counts actors' n ≡ calls_between (mutators_in actors) (mutators_in actors') n
 noted_of_first actors actors' counts zero order order' few many least counted = refl
 noted_of_first actors actors' counts (suc n) order order' few many least counted =
     let (m, at) = found (mutators_in actors) n (omega arith) in
@@ -229,7 +229,7 @@ noted_of_first actors actors' counts (suc n) order order' few many least counted
     (ap₂ call_of count (mutator_from actors' n m' order' at') ∙ sym (ap₂ call_between at at'))
 
 pub serving_notes : (result : Served) (collected : Bool) (actors actors' : List AnyActor) (space space' : Space) (h h' : List Item) (counts : List ℕ) (threads : ℕ) → AreInOrder actors → AreInOrder actors'
-    → length (mutators_in actors) ≡ threads → threads ≤ 16 → ((i : ℕ) (m : Mutating) → slice_get (mutators_in actors) i ≡ Some m → m.thread ≡ i + 1) → ((i : ℕ) → i < 16 → slice_index counts i ≡ placed_at actors i)
+    → length (mutators_in actors) ≡ threads → threads ≤ 255 → ((i : ℕ) (m : Mutating) → slice_get (mutators_in actors) i ≡ Some m → m.thread ≡ i + 1) → ((i : ℕ) → i < 255 → slice_index counts i ≡ placed_at actors i)
     → Answers result collected (mutators_in actors) (mutators_in actors') space space' h h' → order_of h' ≡ order_of h ++ calls_of_first counts actors' threads
 serving_notes result collected actors actors' space space' h h' counts threads order order' many least numbered counted answers =
     let brings = answers_bring result collected (mutators_in actors) (mutators_in actors') space space' h h' answers numbered in

@@ -85,7 +85,7 @@ module _ (task : RunTask) (space after : Space) (written : Option (List ℕ)) (s
         under_way = (
           next.history,
           next.abstract_state,
-          record { epochs = next.again.amid; text = stands'.text; full = full_as (mutators_in actors') (mutators_in actors) next.asked made.full },
+          record { epochs = next.again.amid; threads = amid.threads; text = stands'.text; full = full_as (mutators_in actors') (mutators_in actors) next.asked made.full },
           by_listing next.history x' next.answered again actors'
               (by_answers (Pause next.pause.report ∷ made.history) next.history x' next.pause.abstract_state next.collects next.paused next.answered actors actors' next.sighted
               (drawn_on next.collects next.paused next.sighted next.pause) next.begins next.answers next.keeps)

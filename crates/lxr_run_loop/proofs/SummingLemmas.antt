@@ -1,10 +1,9 @@
 -- The sums of a run: its history has a call for each reply that a mutator keeps, and its last pause collected, so that it counted all that is left.
-use Rattle.std.proofs.Common.{◌≡◌, ℕ, ◌+◌, ◌-◌, ◌*◌, ◌^◌, ◌<◌, ◌≤◌, refl, sym, ap, subst, ◌∙◌, inr, arith, Bool, List, [], ◌∷◌, length, take}
+use Rattle.std.proofs.Common.{◌≡◌, ℕ, ◌+◌, ◌-◌, ◌^◌, ◌<◌, ◌≤◌, refl, sym, ap, subst, ◌∙◌, inr, arith, Bool, List, [], ◌∷◌, length, take}
 use Rattle.std.specs.Prelude.{Option, if◌then◌else◌}
 use Rattle.std.specs.List.{count_by, sum_by}
 use Rattle.std.proofs.lemmas.List.{length-map}
 use Rattle.std.proofs.lemmas.List.Sums.{count_by-le-length, sum_by-cons}
-use Rattle.lxr_alloc.specs.declared.TheConstants.{MOST_OPERATIONS}
 use Rattle.lxr_layout.specs.declared.limits.Limits.{Limits}
 use Rattle.lxr_graph.specs.declared.Op.TheVariants as op
 use Rattle.lxr_graph.specs.declared.Reply.{Reply}
@@ -172,7 +171,7 @@ module _ (task : Task) (space : Space) (seen : Option (List Sight)) (actors : Li
   pub threads_are : space.limits.threads ≡ threads_of task
   threads_are = ap (λ (l : Limits). l.threads) run.left.1.limits
 
-  few_calls : done_of (mutators_in actors) ≤ 16 * (MOST_OPERATIONS + 1)
+  few_calls : done_of (mutators_in actors) + 1 < 2 ^ 31
   few_calls =
       let limits = run.left.1.between.safepoint.holds.space.limits.threads in
       let same = threads_are in

@@ -1,5 +1,5 @@
 -- A teller that stood behind a history stands behind the one that it was told of.
-use Rattle.std.proofs.Common.{◌≡◌, ℕ, ◌+◌, ◌*◌, ◌^◌, ◌<◌, ◌≤◌, min, refl, sym, ap, subst, ◌∙◌, arith, Bool, IsTrue, List, ◌∷◌, length}
+use Rattle.std.proofs.Common.{◌≡◌, ℕ, ◌+◌, ◌*◌, ◌^◌, ◌<◌, ◌≤◌, refl, sym, ap, subst, ◌∙◌, arith, Bool, IsTrue, List, ◌∷◌, length}
 use Rattle.std.specs.Prelude.{Option, not}
 use Rattle.std.proofs.lemmas.Bool.{and_parts}
 use Rattle.lxr_layout.specs.declared.TheConstants.{MOST_GRANULES}
@@ -28,7 +28,7 @@ use Rattle.lxr_run_history.specs.Texts.{prints_counts, told_by, told_report, tol
 use Rattle.lxr_rounds.specs.Observing.{Fails, IsNextReport, Tells, WereAnswered, answers, nothing, pause}
 use Rattle.lxr_run_loop.specs.declared.teller.Teller.{Teller}
 use Rattle.lxr_run_loop.specs.Courses.{AreFew}
-use Rattle.lxr_run_loop.specs.Orders.{IsOrderOf, Notes, calls_of_first}
+use Rattle.lxr_run_loop.specs.Orders.{IsOrderOf, calls_of_first}
 use Rattle.lxr_run_loop.specs.Tasks.{RunTask}
 use Rattle.lxr_run_loop.specs.Telling.{CountsPlaced, FailsReport, NotesServed, StandsBehind, TellsReport}
 use Rattle.lxr_run_loop.proofs.OrderLemmas.{note_follows, notes_follow, serving_notes}
@@ -119,13 +119,12 @@ module _ {S : Type 0} (written : S → Option (List ℕ)) (faults : S → ℕ) (
       let same = answers_report task.options.command task.options.counts were.result were.collected (mutators_in actors) (mutators_in actors') space space' h k were.answers in
       let fit = were.can.fit in
       let most = were.can.between.safepoint.holds.space.limits.threads.1 in
-      let all : min space.limits.threads 16 ≡ space.limits.threads = omega (arith, most) in
       let noted = serving_notes were.result were.collected actors actors' space space' h k o2.placed space.limits.threads fit.helpers.order were.helpers.order fit.as_many
       most (λ i m at. (fit.each i m at).thread) counts.placed were.answers in
       record {
         options = ap (λ (t : Teller). t.options) notes.rest ∙ ap (λ (t : Teller). t.options) counts.rest ∙ stands.options;
         totals = ap (λ (t : Teller). t.totals) notes.rest ∙ ap (λ (t : Teller). t.totals) counts.rest ∙ stands.totals ∙ sym same.totals;
-        order = notes_follow o2.order o'.order (calls_of_first o2.placed actors' space.limits.threads) h k (subst (λ n. Notes o2.order (calls_of_first o2.placed actors' n) o'.order) all notes.order) noted
+        order = notes_follow o2.order o'.order (calls_of_first o2.placed actors' space.limits.threads) h k notes.order noted
             (subst (λ x. IsOrderOf x h) (sym (ap (λ (t : Teller). t.order) counts.rest)) stands.order);
         text = subst (Appends task.written (written w)) (sym same.text) stands.text;
       }

@@ -12,7 +12,7 @@ use Rattle.lxr_words.specs.declared.Options.{Options}
 use Rattle.lxr_text_stream.specs.declared.transfer.WriteError.{WriteError}
 use Rattle.lxr_run_history.specs.Sums.{totals_of}
 use Rattle.lxr_rounds_invariant.specs.LoopInvariant.{HasRunEpoch, IsBetweenEpochs, left_of}
-use Rattle.lxr_run_loop.specs.Tasks.{HasRunAndTold, HasTold, RunTask, WasStopped, rounds_of}
+use Rattle.lxr_run_loop.specs.Tasks.{HasRunAndTold, HasTold, RunTask, WasStopped, rounds_of, script_threads}
 use Rattle.lxr_run_loop.specs.declared.course.Course.{Course}
 use Rattle.lxr_run_loop.specs.Courses.{IsCourseOf}
 use Rattle.lxr_run_loop.specs.Drawing.{IsDrawn, MakesEpoch}
@@ -20,10 +20,11 @@ use Rattle.lxr_run_loop.specs.Orders.{FollowsOrder, IsOrderOf}
 
 -- ---- the run
 
--- The run is between two rounds: it is between two epochs, the reports of its pauses were written, and no mutator has room for a further operation. So
--- its script stays what it is.
+-- The run is between two rounds: it is between two epochs, its script has 16 threads at most, the reports of its pauses were written, and no
+-- mutator has room for a further operation. So its script stays what it is.
 pub record IsBetweenRounds (task : RunTask) (space : Space) (written : Option (List ℕ)) (seen : Option (List Sight)) (actors : List AnyActor) (h : List Item) (g : AbstractState) : Type 0 where
   pub epochs : IsBetweenEpochs (rounds_of task) space seen actors h g
+  pub threads : script_threads task ≤ 16
   pub text : HasTold task written h
   pub full : AreFull (mutators_in actors)
 

@@ -1,5 +1,5 @@
 -- What a run tells of its pauses: what the teller does as it is told of rounds.
-use Rattle.std.specs.Prelude.{◌≡◌, ℕ, ◌<◌, ◌≤◌, min, ⊤, Option, List, [], ◌∷◌, slice_index}
+use Rattle.std.specs.Prelude.{◌≡◌, ℕ, ◌<◌, ◌≤◌, ⊤, Option, List, [], ◌∷◌, slice_index}
 use Rattle.lxr_graph.specs.declared.Item.TheVariants as item
 use Rattle.lxr_graph.specs.History.{Item, PauseReport}
 use Rattle.lxr_core.specs.declared.actors.AnyActor.{AnyActor}
@@ -27,14 +27,14 @@ TellsNothing (Load seed) = ⊤
 abbrev pub told_by_teller : Teller → PauseReport → List ℕ
 told_by_teller o report = told_report o.options.command o.options.counts report
 
--- it counts how many operations of each of the first sixteen actors' threads stand in the history
+-- it counts how many operations of each of the first 255 actors' threads stand in the history
 pub record CountsPlaced (o : Teller) (actors : List AnyActor) (o' : Teller) : Type 0 where
-  pub placed : (i : ℕ) → i < 16 → slice_index o'.placed i ≡ placed_at actors i
+  pub placed : (i : ℕ) → i < 255 → slice_index o'.placed i ≡ placed_at actors i
   pub rest : o' ≡ record o { placed = o'.placed }
 
--- it notes the calls that came since it counted, of the first so many actors, sixteen at most
+-- it notes the calls that came since it counted, of the first so many actors
 pub record NotesServed (o : Teller) (threads : ℕ) (actors : List AnyActor) (o' : Teller) : Type 0 where
-  pub order : Notes o.order (calls_of_first o.placed actors (min threads 16)) o'.order
+  pub order : Notes o.order (calls_of_first o.placed actors threads) o'.order
   pub rest : o' ≡ record o { order = o'.order }
 
 -- it adds a report to the totals, and notes the pause

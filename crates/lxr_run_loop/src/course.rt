@@ -43,7 +43,7 @@ impl Course {
             options,
             totals: self.totals,
             order: mem::replace(&mut self.order, Order::none()),
-            placed: [0; 16],
+            placed: [0; 255],
         }
     }
 

@@ -81,6 +81,7 @@ pub fn open(
         threads: script.len() as u8,
         log: options.log,
         remember: options.remember,
+        evacuate: options.blocks / 8,
     };
     let actors = make_actors(alloc, script, limits, options.every, options.workers)?;
     space.open(alloc, limits)?;

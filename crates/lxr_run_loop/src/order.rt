@@ -93,8 +93,8 @@ impl Order {
     }
 
     /// Adds those of the first actors, in order.
-    pub(crate) fn note_calls(&mut self, actors: &[AnyActor], before: &[u32; 16], first: usize)
-        requires { first ≤ 16 }
+    pub(crate) fn note_calls(&mut self, actors: &[AnyActor], before: &[u32; 255], first: usize)
+        requires { first ≤ 255 }
         ensures { Notes self.old (calls_of_first before.now actors.now first) self.new }
     {
         for number in 0..first {

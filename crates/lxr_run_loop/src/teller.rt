@@ -25,8 +25,9 @@ pub(crate) struct Teller {
     pub(crate) totals: Totals,
     /// In which order calls and pauses have stood so far.
     pub(crate) order: Order,
-    /// How many operations of each of the first sixteen actors' threads stood in the history before `new`s were answered last.
-    pub(crate) placed: [u32; 16],
+    /// How many operations of each of the first 255 actors' threads stood in the history before `new`s were answered last. No space has more
+    /// threads.
+    pub(crate) placed: [u32; 255],
 }
 
 impl<S: Sink> Observer<S> for Teller {
@@ -54,7 +55,7 @@ impl<S: Sink> Observer<S> for Teller {
 
     fn after_serving(&mut self, actors: &[AnyActor], threads: u8) {
         self.order
-            .note_calls(actors, &self.placed, usize::from(threads).min(16));
+            .note_calls(actors, &self.placed, usize::from(threads));
     }
 
     /// Adds the report to the totals, notes the pause and prints what is told of it. After an error a prefix of that is written.
@@ -89,12 +90,12 @@ fn placed_at(actors: &[AnyActor], number: usize) -> u32
     }
 }
 
-/// How many operations of each of the first sixteen actors' threads stand in the history.
-fn placed(actors: &[AnyActor]) -> [u32; 16]
-    ensures { (i : ℕ) → i < 16 → slice_index result i ≡ placed_at actors.now i }
+/// How many operations of each of the first 255 actors' threads stand in the history.
+fn placed(actors: &[AnyActor]) -> [u32; 255]
+    ensures { (i : ℕ) → i < 255 → slice_index result i ≡ placed_at actors.now i }
 {
-    let mut counts = [0; 16];
-    for number in 0..16_usize {
+    let mut counts = [0; 255];
+    for number in 0..255_usize {
         counts[number] = placed_at(actors, number);
     }
     counts

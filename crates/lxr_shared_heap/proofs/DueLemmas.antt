@@ -11,7 +11,7 @@ use Rattle.lxr_model.specs.Legal.{IsLegalSoFar}
 use Rattle.lxr_model.specs.Moments.{Moment, Trace, moment}
 use Rattle.lxr_model.specs.Reports.{is_draining}
 use Rattle.lxr_layout.specs.declared.limits.Limits.{Limits}
-use Rattle.lxr_alloc.specs.declared.TheConstants.{MOST_OPERATIONS}
+use Rattle.lxr_mutator.specs.Dialogues.{most_operations}
 use Rattle.lxr_mutator.specs.declared.phases.MutEnd.{MutEnd}
 use Rattle.lxr_mutator.specs.declared.phases.MutEnd.TheVariants as ends
 use Rattle.lxr_mutator.specs.declared.phases.Waiting.{Waiting}
@@ -57,21 +57,21 @@ less_tested : (n k : ℕ) → n < k → IsTrue (nat_lt n k)
 less_tested n k less = grind (arith, nat_tests, less)
 
 -- who is found to be worn is a mutator that was ordered so much
-worn_told : (actors : List AnyActor) → IsTrue (list_any is_worn actors) → (i : ℕ) × (m : Mutating) × (slice_get (mutators_in actors) i ≡ Some m) × (MOST_OPERATIONS / 2 < length m.operations)
+worn_told : (actors : List AnyActor) → IsTrue (list_any is_worn actors) → (i : ℕ) × (m : Mutating) × (slice_get (mutators_in actors) i ≡ Some m) × (most_operations m.thread / 2 < length m.operations)
 worn_told [] some = absurd (cc)
 worn_told (any.Mutator m ∷ actors) some = elim (or_cases (is_worn (any.Mutator m)) (list_any is_worn actors) some) [
-  | inl here ↦ (0, m, refl, less_told (MOST_OPERATIONS / 2) (length m.operations) here)
+  | inl here ↦ (0, m, refl, less_told (most_operations m.thread / 2) (length m.operations) here)
   | inr more ↦ let (i, x, at, less) = worn_told actors more in (suc i, x, at, less)
 ]
 worn_told (any.Decrementer d ∷ actors) some = worn_told actors some
 worn_told (any.Tracer d ∷ actors) some = worn_told actors some
 
 -- and each such mutator is found
-worn_tested : (actors : List AnyActor) (i : ℕ) (m : Mutating) → slice_get (mutators_in actors) i ≡ Some m → MOST_OPERATIONS / 2 < length m.operations → IsTrue (list_any is_worn actors)
+worn_tested : (actors : List AnyActor) (i : ℕ) (m : Mutating) → slice_get (mutators_in actors) i ≡ Some m → most_operations m.thread / 2 < length m.operations → IsTrue (list_any is_worn actors)
 worn_tested [] i m at less = absurd (cc)
 worn_tested (any.Mutator x ∷ actors) zero m at less =
     let same : x ≡ m = cc in
-    let here : is_worn (any.Mutator x) ≡ true = ap (λ (z : Mutating). is_worn (any.Mutator z)) same ∙ less_tested (MOST_OPERATIONS / 2) (length m.operations) less in
+    let here : is_worn (any.Mutator x) ≡ true = ap (λ (z : Mutating). is_worn (any.Mutator z)) same ∙ less_tested (most_operations m.thread / 2) (length m.operations) less in
     ap (λ b. b || list_any is_worn actors) here
 worn_tested (any.Mutator x ∷ actors) (suc i) m at less = or_right (is_worn (any.Mutator x)) (list_any is_worn actors) (worn_tested actors i m at less)
 worn_tested (any.Decrementer d ∷ actors) i m at less = worn_tested actors i m at less

@@ -38,7 +38,7 @@ use Rattle.lxr_shared.specs.Sharing.{Sharing}
 use Rattle.lxr_shared_passes.specs.Passing.{IsSeen}
 use Rattle.lxr_one_pause.specs.Telling.{TellsWanted}
 use Rattle.lxr_rounds_invariant.specs.Laws.{HasClosed, asked_for, beginning_of}
-use Rattle.lxr_rounds_invariant.specs.LoopInvariant.{HasRunEpoch, HasRunTo, IsBetweenEpochs, Task, pace_of, terms_of}
+use Rattle.lxr_rounds_invariant.specs.LoopInvariant.{HasRunEpoch, HasRunTo, HaveMutators, IsBetweenEpochs, Task, pace_of, terms_of}
 use Rattle.lxr_model.specs.Kinds.{ends}
 use Rattle.lxr_rounds_invariant.proofs.ActorLemmas.{ends_are_fewer}
 use Rattle.lxr_rounds_invariant.proofs.EpochLemmas.{epochs_run, may_open}
@@ -300,11 +300,13 @@ is_false true n = absurd (cc)
 is_false false n = refl
 
 -- where nobody waited, nothing stands behind the pause
-pub idle_stands : (settings : Settings) (script : Script) (calls : List Item) (actors : List AnyActor) (space : Space) (actors' : List AnyActor) (rested : HasRested (run_of settings script) calls actors space actors' false) → AreLive (mutators_in actors) → (b : Bool)
+pub idle_stands : (settings : Settings) (script : Script) (calls : List Item) (actors : List AnyActor) (space : Space) (actors' : List AnyActor) (rested : HasRested (run_of settings script) calls actors space actors' false) → HaveMutators (run_of settings script) calls (mutators_in actors)
+    → AreLive (mutators_in actors) → (b : Bool)
     → b ≡ list_any waits actors → StandsIdle settings script space actors' rested.history rested.stands.0 (not b)
-idle_stands settings script calls actors space actors' rested live b is = record {
+idle_stands settings script calls actors space actors' rested have live b is = record {
   between = rested.stands.1;
-  live = live_as (mutators_in actors) (mutators_in actors') rested.asked live;
+  live = live_as (mutators_in actors) (mutators_in actors') rested.asked
+      (λ i m x at later. (rested.stands.1.actors_rest.mutators.rest.each i x later).thread ∙ sym (have.rest.each i m at).thread) live;
   paused = λ idle. idle_behind (run_of settings script) rested.report calls actors (mutators_in actors') rested.history rested.behind (sym is ∙ is_false b idle);
   drained = λ idle. rested.drained (λ (i, m, at, waiting). none_wait actors (sym is ∙ is_false b idle) i m at waiting);
 }

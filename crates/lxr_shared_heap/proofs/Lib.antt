@@ -17,3 +17,4 @@ pub mod ToldLemmas
 pub mod RenewingLemmas
 pub mod IdleLemmas
 pub mod DueLemmas
+pub mod AskedLemmas

@@ -10,7 +10,7 @@ use Rattle.lxr_image.specs.Opened.{IsOpened}
 use Rattle.lxr_model.specs.Moments.{opening_moment}
 use Rattle.lxr_invariant.specs.Listed.{IsListedWhole}
 use Rattle.lxr_invariant.specs.Quiescent.{IsQuiescent}
-use Rattle.lxr_alloc.specs.declared.TheConstants.{MOST_OPERATIONS}
+use Rattle.lxr_mutator.specs.Dialogues.{most_operations}
 use Rattle.lxr_mutator.specs.Mutating.{Mutating}
 use Rattle.lxr_mutator.specs.Mutators.{IsMutator, first_live, first_of}
 use Rattle.lxr_decrement.specs.Decrementers.{first as first_decrementer}
@@ -77,7 +77,7 @@ new_pushed l every names n actors actors' m new is sound pushed =
 
 -- the limits of its space
 pub settings_fit : (settings : Settings) → AreSettings settings → AreLimits (limits_in settings)
-settings_fit settings ranges = record { blocks = (ranges.blocks.0, let few = ranges.blocks.1 in omega (arith, few)); threads = ranges.mutators; log = ranges.log; remember = ranges.remember }
+settings_fit settings ranges = record { blocks = ranges.blocks; threads = ranges.mutators; log = ranges.log; remember = ranges.remember; evacuate = ranges.evacuate }
 
 -- it is between two epochs
 pub new_between : (settings : Settings) (space : Space) (mutators actors : List AnyActor) → AreSettings settings → AreNew (limits_in settings) settings.every settings.names settings.mutators mutators
@@ -112,7 +112,7 @@ new_between settings space mutators actors ranges new stand opened between liste
             script = new.script;
             each = λ i m at.
                 let is = new.each i m at ∙ ap (λ (k : Limits). first_live (i + 1) k settings.every settings.names) of_task in
-                (MOST_OPERATIONS + 1, is ∙ ap (λ (o : List Op). first_of (i + 1) o (task_limits task) settings.every (MOST_OPERATIONS + 1) settings.names) (sym (ap (λ (x : Mutating). x.operations) is)));
+                (most_operations (i + 1) + 1, is ∙ ap (λ (o : List Op). first_of (i + 1) o (task_limits task) settings.every (most_operations (i + 1) + 1) settings.names) (sym (ap (λ (x : Mutating). x.operations) is)));
             sound = new.sound;
           });
       helpers = subst (λ k. HelpersRest k actors) of_task helpers.rest;
@@ -126,7 +126,7 @@ pub new_live : (l : Limits) (every : ℕ) (names : Bool) (n w : ℕ) (mutators a
 new_live l every names n w mutators actors new stand =
     let ms = mutators_in mutators in
     let same : mutators_in actors ≡ ms = ap mutators_in (behind_in_order l w ms mutators actors new.alone stand) ∙ mutators_of_order ms (replicate w (first_decrementer l)) (replicate w (first_tracer l)) in
-    subst AreLive (sym same) (λ i m at. subst IsLive (sym (new.each i m at)) refl)
+    subst AreLive (sym same) (λ i m at. subst IsLive (sym (new.each i m at)) (omega arith, omega arith))
 
 -- nor have they ended a unit
 pub new_newest : (l : Limits) (every : ℕ) (names : Bool) (n w : ℕ) (mutators actors : List AnyActor) → AreNew l every names n mutators → HelpersStandBehind l w mutators actors → EndByNewest [] (mutators_in actors)

@@ -1,5 +1,5 @@
 -- Names may be renewed where nothing stands behind a draining pause, and then the run is between two epochs again.
-use Rattle.std.proofs.Common.{◌≡◌, ◌≢◌, ℕ, zero, suc, ◌+◌, ◌<◌, ◌≤◌, refl, sym, ap, subst, ◌∙◌, inl, inr, arith, Bool, true, false, List, [], ◌∷◌, ◌++◌, IsTrue, length, length-set, map, nat_eq}
+use Rattle.std.proofs.Common.{◌≡◌, ◌≢◌, ℕ, zero, suc, ◌+◌, ◌<◌, ◌≤◌, refl, sym, ap, subst, ◌∙◌, inl, inr, arith, Bool, true, false, List, [], ◌∷◌, ◌++◌, IsTrue, length, length-set, map, nat_eq, length-drop}
 use Rattle.std.specs.Prelude.{◌&&◌, ◌||◌, Option, Some, None, if◌then◌else◌, is_some, nat_lt, not, option_map, slice_get, slice_set}
 use Rattle.std.specs.List.{list_any}
 use Rattle.std.proofs.lemmas.Bool.Decides.{eqb_tells}
@@ -289,14 +289,13 @@ module _ (settings : Settings) (script : Script) (space : Space) (actors : List 
   each_can left all i (any.Mutator m) at =
       let there = mutator_at actors i m amid.actors_rest.helpers.order at in
       let rests = amid.actors_rest.mutators.rest.each i m there in
-      let operations = rests.mutator.sound.setup.few in
-      let room = stands.live i m there in
+      let room = (stands.live i m there).1 in
       let fit = few in
       record {
         rests = rests.rests;
         idle = amid.served.unwaiting i m there;
         goes_on = λ through. go_on i m there through.1;
-        live = λ full. omega (arith, full, room, operations);
+        live = λ full. omega (arith, full, room);
         few = omega (arith, all, fit);
       }
 
@@ -330,7 +329,10 @@ module _ (settings : Settings) (script : Script) (space : Space) (actors : List 
         by_old (Some m) e shown =
             let both : Some (anew left m) ≡ Some m' = sym (ap (option_map (anew left)) e) ∙ shown in
             let same : anew left m ≡ m' = cc in
-            subst IsLive same (stands.live i m e)
+            let live = stands.live i m e in
+            let spare = live.1 in
+            let fewer = length-drop (length m.replies.items) m.operations in
+            subst IsLive same (live.0, omega (arith, spare, fewer))
 
     pub has_renewed : (listing after : Space) → ListsCounts space listing g.moment g.at → Renews listing after g ns → HasRenewed settings actors after actors' h
     has_renewed listing after tells renews =

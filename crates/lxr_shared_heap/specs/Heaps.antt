@@ -1,5 +1,5 @@
 -- A heap that threads share: what it stands for wherever it stands, and what its calls do.
-use Rattle.std.specs.Prelude.{◌≡◌, true, ◌↔◌, ◌⊎◌, ℕ, ◌+◌, ◌*◌, ◌<◌, ◌≤◌, ⊤, None, Option, Some, List, [], ◌∷◌, ◌++◌, drop, length, map, max, replicate, slice_get}
+use Rattle.std.specs.Prelude.{◌≡◌, true, ◌↔◌, ◌⊎◌, ℕ, zero, suc, ◌+◌, ◌*◌, ◌<◌, ◌≤◌, ⊤, None, Option, Some, List, [], ◌∷◌, ◌++◌, drop, length, map, max, replicate, slice_get, take}
 use Rattle.lxr_graph.specs.declared.report.Kind.TheVariants as kind
 use Rattle.lxr_layout.specs.declared.Name.{Name}
 use Rattle.lxr_graph.specs.declared.Op.{Op}
@@ -84,9 +84,19 @@ IsEnded (stage.Ended space actors) = ⊤
 IsEnded _ = ⊥
 
 -- how many operations the thread was asked for that was asked for most
+abbrev pub longest : Script → ℕ
+longest [] = 0
+longest (operations ∷ script) = max (length operations) (longest script)
+
+-- the same where each operation of a thread after the sixteenth counts sixteen times, since it can be asked for a sixteenth of what the others can
 abbrev pub most_asked : Script → ℕ
-most_asked [] = 0
-most_asked (operations ∷ script) = max (length operations) (most_asked script)
+most_asked script = max (longest (take 16 script)) (16 * longest (drop 16 script))
+
+-- the same while so many of the first sixteen threads are left
+abbrev pub most_asked_with : ℕ → Script → ℕ
+most_asked_with first [] = 0
+most_asked_with zero (operations ∷ script) = max (16 * length operations) (most_asked_with zero script)
+most_asked_with (suc first) (operations ∷ script) = max (length operations) (most_asked_with first script)
 
 -- how many actors a heap has
 abbrev pub actors_of : Settings → ℕ

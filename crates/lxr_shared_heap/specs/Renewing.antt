@@ -9,7 +9,7 @@ use Rattle.lxr_model.specs.Belongs.{Script}
 use Rattle.lxr_model.specs.Moments.{moment}
 use Rattle.lxr_model.specs.Reports.{is_draining}
 use Rattle.lxr_invariant.specs.AbstractState.{AbstractState}
-use Rattle.lxr_alloc.specs.declared.TheConstants.{MOST_OPERATIONS}
+use Rattle.lxr_mutator.specs.Dialogues.{most_operations}
 use Rattle.lxr_mutator.specs.Mutating.{IsWaiting, Mutating, rests_in, waiting_by}
 use Rattle.lxr_mutator.specs.Mutators.{IsFull, IsThrough, renewed}
 use Rattle.lxr_core_invariant.specs.Through.{JustPaused}
@@ -32,7 +32,7 @@ pub record IsRenewalDue (threads : ℕ) (report : PauseReport) (before now : Lis
   pub drains : IsTrue (is_draining report.kind)
   pub unwaiting : (i : ℕ) (m : Mutating) → slice_get before i ≡ Some m → ¬ IsWaiting m
   pub untraced : (moment threads h).trace ≡ None
-  pub worn : (i : ℕ) × (m : Mutating) × (slice_get now i ≡ Some m) × (MOST_OPERATIONS / 2 < length m.operations)
+  pub worn : (i : ℕ) × (m : Mutating) × (slice_get now i ≡ Some m) × (most_operations m.thread / 2 < length m.operations)
   pub unended : (i : ℕ) (m : Mutating) → slice_get now i ≡ Some m → ¬ IsThrough m
 
 -- names were renewed, and nothing has happened since
@@ -49,7 +49,7 @@ waits a = false
 
 -- it is a mutator that was ordered more than half of what it may be ordered
 abbrev pub is_worn : AnyActor → Bool
-is_worn (any.Mutator m) = nat_lt (MOST_OPERATIONS / 2) (length m.operations)
+is_worn (any.Mutator m) = nat_lt (most_operations m.thread / 2) (length m.operations)
 is_worn a = false
 
 -- it is a mutator whose thread has ended

@@ -1,5 +1,5 @@
 -- The settings of a heap: their ranges, and what its rounds go by.
-use Rattle.std.specs.Prelude.{ℕ, ◌≤◌, true, None}
+use Rattle.std.specs.Prelude.{ℕ, ◌/◌, ◌≤◌, true, None}
 use Rattle.lxr_layout.specs.declared.limits.Limits.{Limits}
 use Rattle.lxr_model.specs.Belongs.{Script}
 use Rattle.lxr_rounds_history.specs.Left.{plan_limits}
@@ -13,11 +13,12 @@ IsInRange number most = (1 ≤ number) × (number ≤ most)
 
 -- each number is in its range
 pub record AreSettings (settings : Settings) : Type 0 where
-  pub blocks : IsInRange settings.blocks 1024
-  pub mutators : IsInRange settings.mutators 16
+  pub blocks : IsInRange settings.blocks 65536
+  pub mutators : IsInRange settings.mutators 255
   pub helpers : IsInRange settings.helpers 8
   pub log : IsInRange settings.log 65536
   pub remember : IsInRange settings.remember 1048576
+  pub evacuate : settings.evacuate ≤ settings.blocks / 8
   pub every : IsInRange settings.every 1048576
   pub trace : IsInRange settings.trace 1000000
   pub within : IsInRange settings.within 1000000
@@ -26,6 +27,7 @@ pub record AreSettings (settings : Settings) : Type 0 where
 abbrev pub plan_in : Settings → Plan
 plan_in settings = record {
   blocks = settings.blocks;
+  evacuate = settings.evacuate;
   log = settings.log;
   remember = settings.remember;
   every = settings.every;

@@ -7,7 +7,7 @@ ghost use Rattle.lxr_invariant.specs.AbstractState.{AbstractState};
 ghost use Rattle.lxr_one_pause.specs.Telling.{TellsWanted};
 ghost use Rattle.lxr_rounds_history.specs.Left.{last_report};
 ghost use Rattle.lxr_rounds_invariant.specs.LoopInvariant.{HasRunEpoch};
-ghost use Rattle.lxr_shared_heap.specs.Heaps.{ComesToRest, DoneIsTold, HeapsHaveHistories, IsAtRest, IsHeapOf, IsKept, IsOpened, IsPassOf, MutatorsComeFirst, OpenIsTold, Pauses, PausesWith, Resumes, StationsTellHistories, most_asked, paused_for, space_at};
+ghost use Rattle.lxr_shared_heap.specs.Heaps.{ComesToRest, DoneIsTold, HeapsHaveHistories, IsAtRest, IsHeapOf, IsKept, IsOpened, IsPassOf, MutatorsComeFirst, OpenIsTold, Pauses, PausesWith, Resumes, StationsTellHistories, most_asked, most_asked_with, paused_for, space_at};
 ghost use Rattle.lxr_core.specs.Actors.{mutators_in, script_of};
 ghost use Rattle.lxr_shared_heap.specs.Living.{AreLive};
 ghost use Rattle.lxr_shared_heap.specs.Renewing.{ends_with_renewal};
@@ -236,16 +236,18 @@ impl Heap {
         Some(self.stage.at_rest()?.pauses())
     }
 
-    /// How many operations the mutator has been ordered since names were renewed last that has been ordered most: some exactly where `pauses` is. At
-    /// a pause behind which names can be renewed, they are where it is more than half of what a mutator can be ordered.
-    pub fn asked_most(&self) -> Option<u32>
+    /// How many operations the mutator has been ordered since names were renewed last that has been ordered most, where each of a mutator after the
+    /// sixteenth counts sixteen times: some exactly where `pauses` is. At a pause after which names can be renewed, they are where it is more than
+    /// half of 67,108,864, which is what one of the first sixteen can be ordered.
+    #[tactic(auto, using(crate::proofs::AskedLemmas::asked_with))]
+    pub fn asked_most(&self) -> Option<u64>
         ensures some { IsSome result ↔ IsAtRest self.now.stage }
         ensures most { (script : Script) (h : List Item) → IsHeapOf script h self.now → IfSome result (λ most. most ≡ most_asked script) }
     {
         match &self.stage {
-            Stage::Between { space: _, actors } => Some(most_ordered(actors)),
+            Stage::Between { space: _, actors } => Some(most_ordered(actors, 16)),
             Stage::Within(_) => None,
-            Stage::Ended { space: _, actors } => Some(most_ordered(actors)),
+            Stage::Ended { space: _, actors } => Some(most_ordered(actors, 16)),
             Stage::Lost => None,
         }
     }
@@ -397,19 +399,20 @@ pub fn answers_are_told()
     ensures open { OpenIsTold }
 {}
 
-/// How many operations the mutator has been ordered that has been ordered most.
-fn most_ordered(actors: &[AnyActor]) -> u32
-    ensures { result ≡ most_asked (script_of (mutators_in actors.now)) }
+/// How many operations the mutator has been ordered that has been ordered most, where so many of the first sixteen are left: each of a later one
+/// counts sixteen times.
+fn most_ordered(actors: &[AnyActor], first: u32) -> u64
+    ensures { result ≡ most_asked_with first (script_of (mutators_in actors.now)) }
 {
     match actors.split_first() {
         None => 0,
-        Some((first, rest)) => ordered_of(first).max(most_ordered(rest)),
+        Some((actor, rest)) => match actor.mutator() {
+            None => most_ordered(rest, first),
+            Some(mutator) => {
+                let ordered = u64::from(mutator.ordered());
+                let counted = if first > 0 { ordered } else { 16 * ordered };
+                counted.max(most_ordered(rest, first.saturating_sub(1)))
+            }
+        },
     }
-}
-
-/// How many operations a mutator has been ordered; 0 for a helper.
-fn ordered_of(actor: &AnyActor) -> u32
-    ensures { result ≡ most_asked (script_of (mutators_in (actor.now ∷ []))) }
-{
-    actor.mutator().map_or(0, |mutator| mutator.ordered())
 }

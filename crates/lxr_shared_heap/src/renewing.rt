@@ -9,11 +9,10 @@ ghost use Rattle.lxr_shared_heap.specs.declared.settings.Settings.{Settings as S
 ghost use Rattle.lxr_shared_heap.specs.Renewing.{CanActorRenew, RenewsWhere, StandsIdle, actor_renewed, has_drained, is_at_end, is_renewal_due, is_worn, waits};
 ghost use Rattle.lxr_model.specs.Reports.{is_draining};
 
-use lxr_alloc::MOST_OPERATIONS;
 use lxr_core::AnyActor;
 use lxr_graph::Kind;
 use lxr_image::Space;
-use lxr_mutator::MutEnd;
+use lxr_mutator::{MutEnd, most_operations};
 use lxr_pause_queue::tell_counts;
 use lxr_renew::renew_names;
 
@@ -85,9 +84,7 @@ fn some_is_worn(actors: &[AnyActor]) -> bool
 fn is_worn(actor: &AnyActor) -> bool
     ensures { result ≡ is_worn actor.now }
 {
-    actor
-        .mutator()
-        .is_some_and(|mutator| mutator.ordered() > MOST_OPERATIONS / 2)
+    actor.mutator().is_some_and(|mutator| mutator.ordered() > most_operations(mutator.thread()) / 2)
 }
 
 /// Whether some mutator's thread has ended.

@@ -3,15 +3,15 @@ ghost use Rattle.std.specs.Prelude.{◌≡◌, ◌≤◌, ◌↔◌, IsTrue};
 ghost use Rattle.lxr_rounds_invariant.specs.LoopInvariant.{pace_of};
 ghost use Rattle.lxr_shared_heap.specs.Settings.{AreSettings, limits_in, plan_in};
 
-use lxr_layout::Limits;
+use lxr_layout::{Limits, MOST_BLOCKS};
 use lxr_one_pause::Pace;
 
 /// What a heap is opened with.
 #[derive(Clone, Copy, Debug, PartialEq, Eq)]
 pub struct Settings {
-    /// The size of the heap, in blocks of 32 KiB: 1 to 1,024.
+    /// The size of the heap, in blocks of 32 KiB: 1 to 65,536.
     pub blocks: u32,
-    /// How many mutators there are, each with a number that a thread of the host can have: 1 to 16.
+    /// How many mutators there are, each with a number that a thread of the host can have: 1 to 255.
     pub mutators: u8,
     /// How many decrementers there are, and as many tracers: 1 to 8. One that no thread lets out does nothing.
     pub helpers: u8,
@@ -19,6 +19,8 @@ pub struct Settings {
     pub log: u32,
     /// The room for remembered fields, in entries: 1 to 1,048,576.
     pub remember: u32,
+    /// How many blocks are chosen for evacuation at most when a trace begins: 0 to an eighth of all. The pause that ends the trace pays for them.
+    pub evacuate: u32,
     /// After so many operations since the last pause a mutator does nothing more before the next one: 1 to 1,048,576.
     pub every: u32,
     /// A trace may begin at each pause whose number is a multiple of this: 1 to 1,000,000.
@@ -35,13 +37,16 @@ impl Settings {
     pub fn are_in_range(self) -> bool
         ensures { IsTrue result ↔ AreSettings self }
     {
-        if !is_within(self.blocks, 1024) || !is_within(u32::from(self.mutators), 16) {
+        if !is_within(self.blocks, MOST_BLOCKS) || self.mutators == 0 {
             return false;
         }
         if !is_within(u32::from(self.helpers), 8) || !is_within(self.log, 65_536) {
             return false;
         }
         if !is_within(self.remember, 1_048_576) || !is_within(self.every, 1_048_576) {
+            return false;
+        }
+        if self.evacuate > self.blocks / 8 {
             return false;
         }
         is_within(self.trace, 1_000_000) && is_within(self.within, 1_000_000)
@@ -56,6 +61,7 @@ impl Settings {
             threads: self.mutators,
             log: self.log,
             remember: self.remember,
+            evacuate: self.evacuate,
         }
     }
 

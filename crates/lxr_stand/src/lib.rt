@@ -17,8 +17,6 @@ mod hands;
 mod keeper;
 mod line;
 mod rule;
-#[cfg(test)]
-mod tests;
 mod workers;
 
 use crate::hands::Hand;

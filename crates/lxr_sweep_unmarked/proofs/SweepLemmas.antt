@@ -247,7 +247,7 @@ module _ (s b c : Space) (m : Moment) (at : Name → ℕ) (swept : List Name) (i
         lines = out_still t u m.state.graph at m.made outs old.lines;
         unchosen = unchosen_still t u at m.made states old.unchosen;
         unused = unused_still t u at m.unreclaimed vs states outs in_all old.unused;
-        blocks = subst (λ l. HasBlocks u l.blocks m.trace) (sym limits) (blocks_still t u s.limits.blocks m.trace states (ap (λ f. f TRACING_WORD) cursors) old.blocks);
+        blocks = subst (λ l. HasBlocks u l m.trace) (sym limits) (blocks_still t u s.limits m.trace states (ap (λ f. f TRACING_WORD) cursors) old.blocks);
         rest = rest_stays;
         no_work = refl;
       }

@@ -1,25 +1,15 @@
 //! The line of each block: its number, its state, and how many of its lines aren't free.
-ghost use Rattle.std.specs.Prelude.{◌≡◌, ◌≢◌, ◌+◌, ◌<◌, ◌≤◌, ◌++◌, OnErr, OnOk, codes, length};
-ghost use Rattle.lxr_image.specs.Spaces.{IsSpace, tables_of};
-ghost use Rattle.lxr_evac_blocks.specs.Choosing.{taken_count};
+ghost use Rattle.std.specs.Prelude.{◌≡◌, ◌≢◌, ◌+◌, ◌≤◌, ◌++◌, OnErr, OnOk, codes, length};
+ghost use Rattle.lxr_image.specs.Spaces.{tables_of};
 ghost use Rattle.lxr_text_stream.specs.Streams.{AppendsFront, Rose};
 ghost use Rattle.lxr_text_print.specs.Pages.{Moves};
 ghost use Rattle.lxr_text_map.specs.Map.{CanBeMapped, block_line, blocks_text, state_word};
 
-use lxr_blocks::{BlockState, free_mask, state};
+use lxr_blocks::{BlockState, state};
+use lxr_evac_blocks::taken_lines;
 use lxr_image::Space;
-use lxr_layout::LINES_IN_BLOCK;
 use lxr_text_print::{LINE, PAGE, Page};
 use lxr_text_stream::{Sink, WriteError};
-
-/// How many lines of a block aren't free.
-fn taken_lines(space: &Space, block: u32) -> u32
-    requires space { IsSpace space.now }
-    requires block { block < space.now.limits.blocks }
-    ensures { result ≡ taken_count (tables_of space.now) block }
-{
-    LINES_IN_BLOCK - free_mask(space, block).count_ones()
-}
 
 /// Adds the word of a state between spaces.
 fn push_state(page: &mut Page, state: BlockState)

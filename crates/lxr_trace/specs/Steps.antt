@@ -18,7 +18,7 @@ use Rattle.lxr_trace.specs.declared.phases.TracerPhase.{TracerPhase}
 use Rattle.lxr_trace.specs.declared.phases.TracerPhase.TheVariants as phase
 use Rattle.lxr_trace.specs.Tracing.{TracerState, rests_in}
 use Rattle.lxr_trace.specs.Phases.{IsIn}
-use Rattle.lxr_trace.specs.Words.{counter_in, is_chosen, line_of_field, remember_room}
+use Rattle.lxr_trace.specs.Words.{counter_in, heap_blocks, is_chosen, line_of_field, remember_room}
 
 -- ---- actions
 
@@ -44,7 +44,7 @@ drawing r = record { kind = Add; word = r.cursors + REMEMBERED_CURSOR; operand =
 
 -- the entry of this number is written: the counter of its line, and the reference
 abbrev pub entering : Regions → ℕ → ℕ → Place → ℕ → Action
-entering r number counter place index = record { kind = Store; word = r.remembered + number; operand = word_of_entry counter place index }
+entering r number counter place index = record { kind = Store; word = r.remembered + number; operand = word_of_entry (heap_blocks r) counter place index }
 
 -- the action of a phase; at rest there is none until a unit begins
 abbrev pub action_in : Regions → TracerPhase → Option Action

@@ -1,6 +1,6 @@
 -- What a tracer finds out about fields and blocks, and how many entries the remembered set has room for.
 use Rattle.std.specs.Prelude.{ℕ, ◌-◌, ◌*◌, ◌/◌, ◌%◌, ◌^◌, Bool, nat_eq}
-use Rattle.lxr_layout.specs.declared.TheConstants.{WORDS_IN_LINE}
+use Rattle.lxr_layout.specs.declared.TheConstants.{WORDS_IN_BLOCK, WORDS_IN_LINE}
 use Rattle.lxr_layout.specs.declared.Place.{Place}
 use Rattle.lxr_layout.specs.declared.limits.Regions.{Regions}
 use Rattle.lxr_layout.specs.Places.{field_word}
@@ -18,6 +18,10 @@ counter_in word line = word / 2 ^ (32 * (line % 2)) % 2 ^ 32
 -- the word of the table of states tells that the block is Chosen
 abbrev pub is_chosen : ℕ → Bool
 is_chosen word = nat_eq word (state_number Chosen)
+
+-- how many blocks the heap has: its words are those before the table of counts
+abbrev pub heap_blocks : Regions → ℕ
+heap_blocks r = r.counts / WORDS_IN_BLOCK
 
 -- how many entries the remembered set has room for: its table is before that of cursors
 abbrev pub remember_room : Regions → ℕ

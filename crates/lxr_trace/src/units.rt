@@ -8,7 +8,7 @@ ghost use Rattle.lxr_trace.specs.Phases.{IsIn, IsScan};
 ghost use Rattle.lxr_trace.specs.Steps.{at_reference, scanned, tracer_work};
 
 use crate::phases::{Scan, TraceEnd, TracerPhase};
-use crate::words::{counter_in, is_chosen, line_of_field, remember_room};
+use crate::words::{counter_in, heap_blocks, is_chosen, line_of_field, remember_room};
 use lxr_actor::Action;
 use lxr_helper::{
     HelperState, Phase, Unit, bit_look, bit_setting, has_bit, references_in, referent_in,
@@ -80,7 +80,7 @@ impl Phase<TraceEnd> for TracerPhase {
                 number,
             } => Some(Action::store(
                 regions.remembered + number as u32,
-                entry_word(counter, scan.place, scan.index),
+                entry_word(heap_blocks(regions), counter, scan.place, scan.index),
             )),
             TracerPhase::FindsNothing => Some(Action::load(regions.cursors + TRACING_WORD)),
         }

@@ -1,10 +1,10 @@
 //! Words: what a tracer makes of those about fields, blocks and the remembered set.
 ghost use Rattle.std.specs.Prelude.{◌≡◌, ◌≤◌, ◌<◌, ◌^◌};
 ghost use Rattle.lxr_layout.specs.Places.{IsPlace};
-ghost use Rattle.lxr_trace.specs.Words.{counter_in, is_chosen, line_of_field, remember_room};
+ghost use Rattle.lxr_trace.specs.Words.{counter_in, heap_blocks, is_chosen, line_of_field, remember_room};
 
 use lxr_blocks::BlockState;
-use lxr_layout::{Place, Regions, WORDS_IN_LINE, field_word};
+use lxr_layout::{Place, Regions, WORDS_IN_BLOCK, WORDS_IN_LINE, field_word};
 
 /// The line of a reference of the object at a place, counted over the whole heap.
 #[inline(always)]
@@ -29,6 +29,14 @@ pub(crate) fn is_chosen(word: u64) -> bool
     ensures { result ≡ is_chosen word }
 {
     word == BlockState::Chosen.number()
+}
+
+/// How many blocks the heap has.
+#[inline(always)]
+pub(crate) fn heap_blocks(regions: &Regions) -> u32
+    ensures { result ≡ heap_blocks regions.now }
+{
+    regions.counts / WORDS_IN_BLOCK
 }
 
 /// How many entries the remembered set has room for.

@@ -17,6 +17,7 @@ const SETTINGS: Settings = Settings {
     helpers: 1,
     log: 64,
     remember: 64,
+    evacuate: 8,
     every: 100,
     trace: 2,
     within: 2,

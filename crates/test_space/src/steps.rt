@@ -13,6 +13,7 @@ pub const LIMITS: Limits = Limits {
     threads: 1,
     log: 1,
     remember: 1,
+    evacuate: 0,
 };
 
 /// Where its tables begin, worked out by hand.

@@ -22,7 +22,7 @@ fn packed_words(rt: HostRuntime) {
         lines: 125,
     };
     assert_eq!(rt; run_word(run), 893);
-    assert_eq!(rt; entry_word(4, Place(33), 2), 17_179_902_978);
+    assert_eq!(rt; entry_word(1, 4, Place(33), 2), 17_179_902_978);
 }
 
 /// Raises the last count of a word.

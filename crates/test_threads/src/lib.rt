@@ -6,6 +6,8 @@
 mod fitting;
 mod repeater;
 mod run;
+#[cfg(test)]
+mod standing;
 mod stores;
 #[cfg(test)]
 mod tests;

@@ -10,19 +10,30 @@
 
 #include <stdatomic.h>
 #include <stdbool.h>
+#include <stddef.h>
 #include <stdlib.h>
+#include <string.h>
 
-enum { PASSES = 32, WORLD_REFS = 64, FULL = 16, COLLECTS = 4, MOSTLY = 1000 };
+enum { MUTATORS = 255, HELPERS = 8, PASSES = MUTATORS + 2 * HELPERS, WORLD_REFS = 64, COLLECTS = 4, MOSTLY = 1000 };
 
 /* Of so many operations that may want a pause by themselves one does; hardly any where a test says so. */
 #ifndef MOCK_GIVES_UP
 #define MOCK_GIVES_UP 64u
 #endif
 
-/* Operations that a thread may be ordered from one renewal of names to the next; fewer where a test says so. */
+/* Of so many objects that waited for room one finds none; hardly any where a test says so. */
+#ifndef MOCK_FULL
+#define MOCK_FULL 16u
+#endif
+
+/*
+ * Operations that a mutator may be ordered from one renewal of names to the next, of which each counts sixteen times of one after the sixteenth;
+ * fewer where a test says so.
+ */
 #ifndef LXR_OPERATIONS
 #define LXR_OPERATIONS 67108864u
 #endif
+enum { FIRST = 16, OF_OTHERS = 16 };
 
 /* An object. Its references stand after it, as addresses, and then its data words. */
 struct object {
@@ -42,7 +53,7 @@ struct operation {
 struct pass {
     atomic_uint away;
     bool helps, through, open, replied, lacks;
-    uint32_t done, ordered;
+    uint32_t done, ordered, weight; /* how much an operation counts of those that it may be ordered */
     struct operation operation;
     lxr_code code;
     uint64_t word, dice;
@@ -192,7 +203,7 @@ static lxr_code order(lxr_station *station, const struct operation *asked, uint6
     if (pass->through) return LXR_E_HELD;
     if (pass->open) return LXR_E_BUSY;
     if (pass->ordered >= LXR_OPERATIONS) return LXR_E_USED_UP;
-    pass->ordered++;
+    pass->ordered += pass->weight;
     pass->operation = *asked;
     pass->open = true;
     lxr_code code = go_on(post->heap, pass);
@@ -344,15 +355,26 @@ lxr_code lxr_station_help(lxr_station *station, uint32_t units, uint32_t *more) 
 
 static bool is_within(uint32_t number, uint32_t least, uint32_t most) { return number >= least && number <= most; }
 
-static bool are_settings(const lxr_passes_settings *settings) {
-    return settings->size == sizeof *settings && is_within(settings->blocks, 1, 1024) && is_within(settings->mutators, 1, 16) &&
-           is_within(settings->helpers, 1, 8) && is_within(settings->log, 1, 65536) && is_within(settings->remember, 1, 1048576) &&
-           is_within(settings->every, 1, 1048576) && is_within(settings->trace, 1, 1000000) && is_within(settings->within, 1, 1000000);
+/* Reads settings of this version, or of 0.2, which evacuated an eighth of the blocks; whether their size is one of these. */
+static bool read_settings(lxr_passes_settings *settings, const lxr_passes_settings *from) {
+    const size_t first = offsetof(lxr_passes_settings, evacuate);
+    if (from->size != sizeof *settings && from->size != first) return false;
+    memcpy(settings, from, (size_t)from->size);
+    if (from->size == first) settings->evacuate = settings->blocks / 8;
+    return true;
 }
 
-lxr_code lxr_passes_open(lxr_passes *handle, const lxr_passes_settings *settings) {
+static bool are_settings(const lxr_passes_settings *settings) {
+    return is_within(settings->blocks, 1, 65536) && is_within(settings->mutators, 1, MUTATORS) &&
+           is_within(settings->helpers, 1, HELPERS) && is_within(settings->log, 1, 65536) && is_within(settings->remember, 1, 1048576) &&
+           is_within(settings->evacuate, 0, settings->blocks / 8) && is_within(settings->every, 1, 1048576) &&
+           is_within(settings->trace, 1, 1000000) && is_within(settings->within, 1, 1000000);
+}
+
+lxr_code lxr_passes_open(lxr_passes *handle, const lxr_passes_settings *asked) {
+    lxr_passes_settings settings;
     if (handle->live) return LXR_E_IN_USE;
-    if (!are_settings(settings)) return LXR_E_SIZE;
+    if (!read_settings(&settings, asked) || !are_settings(&settings)) return LXR_E_SIZE;
     struct object *none = NULL;
     struct heap *heap = calloc(1, sizeof *heap);
     if (!heap) return LXR_E_MEMORY;
@@ -361,12 +383,13 @@ lxr_code lxr_passes_open(lxr_passes *handle, const lxr_passes_settings *settings
         free(heap);
         return LXR_E_MEMORY;
     }
-    heap->settings = *settings;
+    heap->settings = settings;
     atomic_init(&heap->shares, 1);
     for (uint32_t at = 0; at < PASSES; at++) {
         heap->passes[at].dice = at + 1;
-        heap->passes[at].helps = at >= settings->mutators;
-        if (at < settings->mutators) heap->passes[at].registers[0] = heap->world;
+        heap->passes[at].helps = at >= settings.mutators;
+        heap->passes[at].weight = at < FIRST ? 1 : OF_OTHERS;
+        if (at < settings.mutators) heap->passes[at].registers[0] = heap->world;
     }
     handle->live = 1;
     handle->block = heap;
@@ -408,7 +431,7 @@ static lxr_code find_refusal(struct heap *heap) {
 /* Answers a `new` that lacks room, which may want a collecting pause first; whether it is answered. */
 static bool serve(struct heap *heap, struct pass *pass, bool collected) {
     if (!collected && one_in(pass, COLLECTS)) return false;
-    pass->code = one_in(pass, FULL) ? LXR_E_FULL : act(heap, pass);
+    pass->code = one_in(pass, MOCK_FULL) ? LXR_E_FULL : act(heap, pass);
     pass->open = false;
     pass->replied = true;
     return true;
@@ -430,7 +453,7 @@ static bool pause_once(struct heap *heap, bool collect) {
     return served;
 }
 
-/* The operations of the thread that was ordered most. */
+/* The operations of the mutator that was ordered most, as they count. */
 static uint32_t find_most(const struct heap *heap) {
     uint32_t most = 0;
     for (size_t at = 0; at < PASSES; at++) {
@@ -442,7 +465,7 @@ static uint32_t find_most(const struct heap *heap) {
 /* Renews names, after a collecting pause that nobody waited for to have room. */
 static void renew_where_due(struct heap *heap) {
     if (heap->kind != LXR_KIND_COLLECT || heap->waited || find_most(heap) <= LXR_OPERATIONS / 2) return;
-    for (size_t at = 0; at < PASSES; at++) heap->passes[at].ordered = heap->passes[at].open;
+    for (size_t at = 0; at < PASSES; at++) heap->passes[at].ordered = heap->passes[at].open ? heap->passes[at].weight : 0;
     heap->since = heap->pauses;
 }
 

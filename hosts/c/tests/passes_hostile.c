@@ -9,9 +9,22 @@
 #include <inttypes.h>
 #include <stdio.h>
 #include <stdlib.h>
+#include <string.h>
+#include <sys/mman.h>
+#include <unistd.h>
 
 #define UNTOUCHED 0xA5A5A5A5u
 #define LAST      UINT32_MAX
+
+/* The bytes of settings of version 0.2. */
+#define FIRST 40
+
+/* The largest heap that is opened here: one of the archive's writes all its words as it is opened. */
+#ifdef MOCK_PASSES
+enum { LARGEST = 65536 };
+#else
+enum { LARGEST = 3000 };
+#endif
 
 static unsigned long checks;
 
@@ -36,7 +49,7 @@ static void is_untouched(int line) {
 /* A refused call. */
 #define REFUSED(call, code) (check(call, code, #call, __LINE__), is_untouched(__LINE__))
 
-static const lxr_passes_settings good = { sizeof(lxr_passes_settings), 8, 2, 1, 64, 1024, 100, 4, 2 };
+static const lxr_passes_settings good = { sizeof(lxr_passes_settings), 8, 2, 1, 64, 1024, 100, 4, 2, 1, 0 };
 
 /* Each operation, with numbers that would do. */
 static void refuse_operations(lxr_station *station, lxr_code code) {
@@ -80,7 +93,7 @@ static void try_empty(void) {
 
 /* Settings of another size than there is are refused, whatever else they have. */
 static void try_sizes(void) {
-    const uint64_t wrong[] = { 0, 8, sizeof good - 8, sizeof good + 1, sizeof good + 8, UINT64_MAX };
+    const uint64_t wrong[] = { 0, 8, FIRST - 8, FIRST - 1, FIRST + 1, sizeof good - 1, sizeof good + 1, sizeof good + 8, UINT64_MAX };
     for (size_t at = 0; at < sizeof wrong / sizeof wrong[0]; at++) {
         lxr_passes heap = { 0, 0 };
         lxr_passes_settings settings = good;
@@ -90,26 +103,62 @@ static void try_sizes(void) {
     }
 }
 
+/* Settings of version 0.2 are taken, and nothing is read that stands after them: there is no page. */
+static void try_first(void) {
+    const size_t page = (size_t)sysconf(_SC_PAGESIZE);
+    void *pages = NULL;
+    lxr_passes heap = { 0, 0 };
+    IS((uint64_t)posix_memalign(&pages, page, 2 * page), 0);
+    lxr_passes_settings *settings = (void *)((char *)pages + page - FIRST);
+    memcpy(settings, &good, FIRST);
+    settings->size = FIRST;
+    IS((uint64_t)mprotect((char *)pages + page, page, PROT_NONE), 0);
+    IS(lxr_passes_open(&heap, settings), LXR_OK);
+    IS(lxr_passes_close(&heap), LXR_OK);
+    settings->blocks = 0;
+    IS(lxr_passes_open(&heap, settings), LXR_E_SIZE);
+    IS((uint64_t)mprotect((char *)pages + page, page, PROT_READ | PROT_WRITE), 0);
+    free(pages);
+}
+
+/* A heap is opened with these settings where they fit, and else refused. */
+static void try_open(const lxr_passes_settings *settings, uint32_t fits) {
+    lxr_passes heap = { 0, 0 };
+    IS(lxr_passes_open(&heap, settings), fits ? LXR_OK : LXR_E_SIZE);
+    IS(heap.live != 0, fits);
+    IS(lxr_passes_close(&heap), fits ? LXR_OK : LXR_E_NO_HEAP);
+}
+
 static void try_settings(void) {
     const struct {
         size_t field;
         uint32_t most;
     } ranges[] = {
-        { offsetof(lxr_passes_settings, blocks), 1024 },      { offsetof(lxr_passes_settings, mutators), 16 },
-        { offsetof(lxr_passes_settings, helpers), 8 },        { offsetof(lxr_passes_settings, log), 65536 },
-        { offsetof(lxr_passes_settings, remember), 1048576 }, { offsetof(lxr_passes_settings, every), 1048576 },
-        { offsetof(lxr_passes_settings, trace), 1000000 },    { offsetof(lxr_passes_settings, within), 1000000 },
+        { offsetof(lxr_passes_settings, mutators), 255 },   { offsetof(lxr_passes_settings, helpers), 8 },
+        { offsetof(lxr_passes_settings, log), 65536 },      { offsetof(lxr_passes_settings, remember), 1048576 },
+        { offsetof(lxr_passes_settings, every), 1048576 },  { offsetof(lxr_passes_settings, trace), 1000000 },
+        { offsetof(lxr_passes_settings, within), 1000000 },
     };
     for (size_t at = 0; at < sizeof ranges / sizeof ranges[0]; at++) {
-        const uint32_t tried[] = { 0, 1, ranges[at].most, ranges[at].most + 1, 256 + 1, LAST };
-        for (size_t it = 0; it < 6; it++) {
-            lxr_passes heap = { 0, 0 };
+        const uint32_t tried[] = { 0, 1, ranges[at].most, ranges[at].most + 1, 256, 256 + 1, LAST };
+        for (size_t it = 0; it < sizeof tried / sizeof tried[0]; it++) {
             lxr_passes_settings settings = good;
-            uint32_t fits = tried[it] >= 1 && tried[it] <= ranges[at].most;
             *(uint32_t *)(void *)((char *)&settings + ranges[at].field) = tried[it];
-            IS(lxr_passes_open(&heap, &settings), fits ? LXR_OK : LXR_E_SIZE);
-            IS(heap.live != 0, fits);
-            IS(lxr_passes_close(&heap), fits ? LXR_OK : LXR_E_NO_HEAP);
+            try_open(&settings, tried[it] >= 1 && tried[it] <= ranges[at].most);
+        }
+    }
+}
+
+/* Heaps of so many blocks, of which no more than an eighth is evacuated. */
+static void try_blocks(void) {
+    const uint32_t tried[] = { 0, 1, 7, 8, 15, 16, 1024, 1025, LARGEST, 65537, 1u << 31, LAST };
+    for (size_t at = 0; at < sizeof tried / sizeof tried[0]; at++) {
+        const uint32_t blocks = tried[at], evacuated[] = { 0, 1, blocks / 8, blocks / 8 + 1, blocks, LAST };
+        for (size_t it = 0; it < sizeof evacuated / sizeof evacuated[0]; it++) {
+            lxr_passes_settings settings = good;
+            settings.blocks = blocks;
+            settings.evacuate = evacuated[it];
+            try_open(&settings, blocks >= 1 && blocks <= 65536 && evacuated[it] <= blocks / 8);
         }
     }
 }
@@ -258,7 +307,9 @@ int main(void) {
     lxr_passes heap = { 0, 0 };
     try_empty();
     try_sizes();
+    try_first();
     try_settings();
+    try_blocks();
     IS(lxr_passes_open(&heap, &good), LXR_OK);
     try_between(&heap, 0);
     IS(lxr_passes_resume(&heap), LXR_OK);

@@ -1,9 +1,10 @@
 /*
  * passes_threads.c: threads that share a heap by lxr_passes.h and a lock of their own. SPDX: MIT OR Apache-2.0
  *
- * Two threads, and eight, come and go: each takes whichever pass is at home, goes on where another thread stopped, and brings it home or
- * closes the station that has it; the one that finds all at home makes the pause. One pass stays at home for 1,000 pauses. Sixteen threads
- * ask for half the heap at once, each by a station that another thread let out, and each is served or told that the heap is full.
+ * Two threads, and eight, come and go, among eight mutators and among 255: each takes whichever pass is at home, goes on where another thread
+ * stopped, and brings it home or closes the station that has it; the one that finds all at home makes the pause. One pass stays at home for
+ * 1,000 pauses. Sixteen threads ask for half the heap at once, each by a station that another thread let out, and each is served or told that
+ * the heap is full.
  */
 #include "../lxr_passes.h"
 
@@ -13,7 +14,7 @@
 #include <stdio.h>
 #include <stdlib.h>
 
-enum { MUTATORS = 8, VISITS = 400, OPERATIONS = 5, PAUSES = 1000, ALL = 16, TRIES = 64 };
+enum { FEW = 8, MANY = 255, VISITS = 400, OPERATIONS = 5, PAUSES = 1000, ALL = 16, TRIES = 64 };
 
 /* The mock of the archive says at random that a heap is full, and makes a pause of its own after one that leaves something unserved. */
 #ifdef MOCK_PASSES
@@ -33,8 +34,10 @@ static void check(uint64_t found, uint64_t wanted, const char *what, int line) {
 
 #define IS(what, wanted) check(what, wanted, #what, __LINE__)
 
+/* Among many mutators each is visited seldom, so that each visit wants a pause. */
 static void open_heap(uint32_t blocks, uint32_t mutators) {
-    const lxr_passes_settings settings = { sizeof settings, blocks, mutators, 1, 64, 64, 100, 2, 2 };
+    const uint32_t every = mutators > FEW ? OPERATIONS : 100;
+    const lxr_passes_settings settings = { sizeof settings, blocks, mutators, 1, 64, 64, every, 2, 2, blocks / 8, 0 };
     heap = (lxr_passes){ 0, 0 };
     IS(lxr_passes_open(&heap, &settings), LXR_OK);
     IS(lxr_passes_resume(&heap), LXR_OK);
@@ -68,22 +71,27 @@ struct host {
     uint64_t operations, missed, pauses;
 };
 
-static struct mutator mutators[MUTATORS];
+static struct mutator mutators[MANY];
+static uint32_t count;
 
-/* An object is made, written, added to and read, stored in the world, loaded again and compared; and what each of these tells. */
+/*
+ * An object is made, written, added to and read, stored in the world, or in itself where that has no place for the mutator, loaded from there and
+ * compared; and what each of these tells.
+ */
 enum { NEW, PUT, ADD, GET, STORE, LOAD, SAME, DEEDS };
 
 static const uint64_t told[DEEDS] = { [ADD] = 7, [GET] = 12, [SAME] = 1 };
 
 static lxr_code order(lxr_station *station, const struct mutator *mutator, uint64_t *word) {
     uint32_t same = 0, code = LXR_OK;
+    const uint32_t base = mutator->number < LXR_WORLD_REFS ? 0 : 1, index = base ? 0 : mutator->number;
     switch (mutator->done % DEEDS) {
     case NEW: return lxr_station_new(station, 1, 1, 1);
     case PUT: return lxr_station_put(station, 1, 0, 7);
     case ADD: return lxr_station_add(station, 1, 0, 5, word);
     case GET: return lxr_station_get(station, 1, 0, word);
-    case STORE: return lxr_station_store(station, 0, mutator->number, 1);
-    case LOAD: return lxr_station_load(station, 2, 0, mutator->number);
+    case STORE: return lxr_station_store(station, base, index, 1);
+    case LOAD: return lxr_station_load(station, 2, base, index);
     default: code = lxr_station_same(station, 1, 2, &same);
     }
     if (code == LXR_OK) *word = same;
@@ -116,7 +124,7 @@ static void look_back(lxr_station *station, const struct mutator *mutator) {
 
 /* Makes the pause, where one is wanted and all are at home, and takes the next pass, if it is at home; else NULL. */
 static struct mutator *enter(struct host *host, lxr_station *station) {
-    struct mutator *next = &mutators[host->next++ % MUTATORS];
+    struct mutator *next = &mutators[host->next++ % count];
     pthread_mutex_lock(&lock);
     uint32_t made = lxr_passes_pause(&heap);
     if (made == LXR_OK) IS(lxr_passes_resume(&heap), LXR_OK);
@@ -159,12 +167,13 @@ static void *visit_all(void *with) {
     return NULL;
 }
 
-/* Lets so many threads come and go; how many operations were answered. */
-static uint64_t come_and_go(uint32_t threads) {
-    struct host hosts[MUTATORS] = { { 0, 0, 0, 0 } }, sums = { 0, 0, 0, 0 };
-    pthread_t started[MUTATORS];
-    open_heap(64, MUTATORS);
-    for (uint32_t at = 0; at < MUTATORS; at++) mutators[at] = (struct mutator){ .number = at };
+/* Lets so many threads come and go among so many mutators, in a heap of so many blocks; how many operations were answered. */
+static uint64_t come_and_go(uint32_t threads, uint32_t places, uint32_t blocks) {
+    struct host hosts[FEW] = { { 0, 0, 0, 0 } }, sums = { 0, 0, 0, 0 };
+    pthread_t started[FEW];
+    count = places;
+    open_heap(blocks, count);
+    for (uint32_t at = 0; at < count; at++) mutators[at] = (struct mutator){ .number = at };
     for (uint32_t at = 0; at < threads; at++) {
         hosts[at].next = at;
         start(&started[at], visit_all, &hosts[at]);
@@ -217,7 +226,7 @@ static lxr_code is_it(lxr_station *station) {
 /* Its object stands in the world meanwhile, where it finds it again. */
 static void try_sleep(void) {
     uint64_t pauses = 0;
-    open_heap(64, MUTATORS);
+    open_heap(64, FEW);
     surely(1, make_large);
     surely(1, write_word);
     surely(1, keep_it);
@@ -295,7 +304,8 @@ static void try_full(void) {
 }
 
 int main(void) {
-    uint64_t operations = come_and_go(2) + come_and_go(MUTATORS);
+    uint64_t operations = come_and_go(2, FEW, 64) + come_and_go(FEW, FEW, 64);
+    operations += come_and_go(2, MANY, 3000) + come_and_go(FEW, MANY, 300);
     try_sleep();
     try_full();
     printf("passes_threads: %" PRIu64 " operations of threads that came and went; one stayed at home for %d pauses; %d asked at once\n",

@@ -9,10 +9,21 @@
 #include <inttypes.h>
 #include <stdio.h>
 #include <stdlib.h>
+#include <string.h>
 
 #define UNTOUCHED 0xA5A5A5A5u
 #define LAST      UINT32_MAX
 #define LONG      90000000u
+
+/* The bytes of settings of version 0.2. */
+#define FIRST 64
+
+/* The largest heap that is opened here: one of the archive's writes all its words as it is opened. */
+#ifdef MOCK_PASSES
+enum { LARGEST = 65536 };
+#else
+enum { LARGEST = 3000 };
+#endif
 
 static unsigned long checks;
 
@@ -84,7 +95,8 @@ static void refuse_all(lxr_mutator *mutator, lxr_code code) {
 
 /* Settings of another size than there is are refused, whatever else they have. */
 static void try_sizes(void) {
-    const uint64_t all = sizeof(lxr_shared_heap_settings), wrong[] = { 0, 8, all - 8, all + 1, all + 8, UINT64_MAX };
+    const uint64_t all = sizeof(lxr_shared_heap_settings);
+    const uint64_t wrong[] = { 0, 8, FIRST - 8, FIRST - 1, FIRST + 1, all - 1, all + 1, all + 8, UINT64_MAX };
     for (size_t at = 0; at < sizeof wrong / sizeof wrong[0]; at++) {
         lxr_shared_heap *heap = NULL;
         lxr_shared_heap_settings settings = LXR_SHARED_HEAP_SETTINGS(8, 2);
@@ -94,28 +106,62 @@ static void try_sizes(void) {
     }
 }
 
-static void try_settings(void) {
+/* Settings of version 0.2 are taken, and nothing is read that stands after them. */
+static void try_first(void) {
+    const lxr_shared_heap_settings good = LXR_SHARED_HEAP_SETTINGS(8, 2);
     lxr_shared_heap *heap = NULL;
+    lxr_shared_heap_settings *settings = malloc(FIRST);
+    IS(settings != NULL, 1);
+    memcpy(settings, &good, FIRST);
+    settings->size = FIRST;
+    IS(lxr_shared_heap_open(&heap, settings), LXR_OK);
+    IS(lxr_shared_heap_close(&heap), LXR_OK);
+    settings->mutators = 256;
+    IS(lxr_shared_heap_open(&heap, settings), LXR_E_SIZE);
+    free(settings);
+}
+
+/* A heap is opened with these settings where they fit, and else refused. */
+static void try_open(const lxr_shared_heap_settings *settings, uint32_t fits) {
+    lxr_shared_heap *heap = NULL;
+    IS(lxr_shared_heap_open(&heap, settings), fits ? LXR_OK : LXR_E_SIZE);
+    IS(heap != NULL, fits);
+    IS(lxr_shared_heap_close(&heap), fits ? LXR_OK : LXR_E_NO_HEAP);
+}
+
+static void try_settings(void) {
     const lxr_shared_heap_settings good = LXR_SHARED_HEAP_SETTINGS(8, 2);
     const struct {
         size_t field;
         uint32_t least, most;
     } ranges[] = {
-        { offsetof(lxr_shared_heap_settings, blocks), 1, 1024 },      { offsetof(lxr_shared_heap_settings, mutators), 1, 16 },
-        { offsetof(lxr_shared_heap_settings, helpers), 0, 8 },        { offsetof(lxr_shared_heap_settings, log), 1, 65536 },
-        { offsetof(lxr_shared_heap_settings, remember), 1, 1048576 }, { offsetof(lxr_shared_heap_settings, every), 1, 1000000 },
-        { offsetof(lxr_shared_heap_settings, trace), 1, 1000000 },    { offsetof(lxr_shared_heap_settings, within), 1, 1000000 },
+        { offsetof(lxr_shared_heap_settings, mutators), 1, 255 },  { offsetof(lxr_shared_heap_settings, helpers), 0, 8 },
+        { offsetof(lxr_shared_heap_settings, log), 1, 65536 },     { offsetof(lxr_shared_heap_settings, remember), 1, 1048576 },
+        { offsetof(lxr_shared_heap_settings, evacuate), 0, 1 },    { offsetof(lxr_shared_heap_settings, every), 1, 1000000 },
+        { offsetof(lxr_shared_heap_settings, trace), 1, 1000000 }, { offsetof(lxr_shared_heap_settings, within), 1, 1000000 },
     };
     for (size_t at = 0; at < sizeof ranges / sizeof ranges[0]; at++) {
         const uint32_t tried[] = { ranges[at].least - 1, ranges[at].least, ranges[at].most, ranges[at].most + 1, LAST };
         for (size_t it = 0; it < 5; it++) {
             lxr_shared_heap_settings settings = good;
-            uint32_t fits = tried[it] >= ranges[at].least && tried[it] <= ranges[at].most;
             *(uint32_t *)(void *)((char *)&settings + ranges[at].field) = tried[it];
-            IS(lxr_shared_heap_open(&heap, &settings), fits ? LXR_OK : LXR_E_SIZE);
-            IS(heap != NULL, fits);
-            IS(lxr_shared_heap_close(&heap), fits ? LXR_OK : LXR_E_NO_HEAP);
+            try_open(&settings, tried[it] >= ranges[at].least && tried[it] <= ranges[at].most);
         }
+    }
+}
+
+/* Heaps of the header's own settings, and those of which as much is evacuated as may be, and more. */
+static void try_blocks(void) {
+    const uint32_t tried[] = { 0, 1, 7, 8, 511, 512, 1024, 1025, LARGEST, LXR_MOST_SHARED_BLOCKS + 1, 1u << 31, LAST };
+    for (size_t at = 0; at < sizeof tried / sizeof tried[0]; at++) {
+        const uint32_t blocks = tried[at], fits = blocks >= 1 && blocks <= 65536;
+        lxr_shared_heap_settings settings = LXR_SHARED_HEAP_SETTINGS(blocks, 2);
+        IS(settings.evacuate, blocks / 8 < 64 ? blocks / 8 : 64);
+        try_open(&settings, fits);
+        settings.evacuate = blocks / 8;
+        try_open(&settings, fits);
+        settings.evacuate = blocks / 8 + 1;
+        try_open(&settings, 0);
     }
 }
 
@@ -461,7 +507,9 @@ int main(int words, char **unused) {
     const lxr_shared_heap_settings settings = LXR_SHARED_HEAP_SETTINGS(16, 1);
     try_null();
     try_sizes();
+    try_first();
     try_settings();
+    try_blocks();
     try_handles();
     IS(lxr_shared_heap_open(&heap, &settings), LXR_OK);
     IS(lxr_mutator_enter(heap, &mutator), LXR_OK);

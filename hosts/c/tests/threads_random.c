@@ -1,10 +1,11 @@
 /*
- * threads_random.c: random hosts of lxr_threads.h, with 1 to 16 threads. SPDX: MIT OR Apache-2.0
+ * threads_random.c: random hosts of lxr_threads.h, with 1 to 255 threads. SPDX: MIT OR Apache-2.0
  *
  * usage: threads_random SECONDS [SEED]     rounds for so long, each from a number of its own on; with 0 seconds one round, from SEED
  *
- * A round opens a heap and starts threads, which enter and leave it, rest, poll, ask for pauses, and make some thousand operations each.
- * What only one thread holds is kept beside the heap as a plain graph, and each code and word has to be that of the graph. What threads
+ * A round opens a heap of 1 to 3,000 blocks, of which a trace evacuates up to an eighth, for 1 to 255 mutators, and starts threads: mostly up
+ * to sixteen, and rarely more. They enter and leave it, rest, poll, ask for pauses, and make some thousand operations each, or as many together
+ * where they are more. What only one thread holds is kept beside the heap as a plain graph, and each code and word has to be that of the graph. What threads
  * share has to keep what they agree on: tokens that are swapped stay as many as they were, and one thread or field holds each; adds to a
  * counter lose nothing; and an object that a thread finds is one that was made whole before it was stored.
  */
@@ -22,8 +23,8 @@
 /* Registers: the world, a token, what is shared, a published object; from OWN on a thread's own objects. The last is always nil. */
 enum { WORLD, TOKEN, COUNTER, FOUND, OWN, NIL_REGISTER = LXR_REGISTERS - 1 };
 
-/* References of the world: places for tokens, the counter, and a published object of each thread. */
-enum { TOKEN_PLACES = 8, COUNTER_PLACE = 8, PUBLISHED = 16 };
+/* References of the world: places for tokens, the counter, and a published object of each thread up to the last place. */
+enum { TOKEN_PLACES = 8, COUNTER_PLACE = 8, PUBLISHED = 16, PUBLISHERS = LXR_WORLD_REFS - PUBLISHED };
 
 /* Where names are to be renewed early, as the mock of the archive can be told, pauses come often enough for it. */
 #ifdef LXR_OPERATIONS
@@ -32,7 +33,7 @@ enum { RENEWS = 1 };
 enum { RENEWS = 0 };
 #endif
 
-enum { COUNTER_WORDS = 4, MOST_FIELDS = 6, OPERATIONS = 4000, SEVERAL = 8 };
+enum { COUNTER_WORDS = 4, MOST_FIELDS = 6, OPERATIONS = 4000, SEVERAL = 8, FEW = 16, MOST_BLOCKS = 3000 };
 
 /* An object of the graph beside the heap. */
 struct node {
@@ -45,7 +46,7 @@ struct node {
 /* A thread of the round. */
 struct player {
     uint32_t number;
-    uint64_t dice, adds[COUNTER_WORDS], least[COUNTER_WORDS], published, seen[LXR_MOST_MUTATORS];
+    uint64_t dice, adds[COUNTER_WORDS], least[COUNTER_WORDS], published, seen[PUBLISHERS];
     uint64_t token; /* the token that it holds, or 0 */
     struct node *registers[LXR_REGISTERS], *newest;
     lxr_mutator *mutator;
@@ -423,7 +424,7 @@ static void publish(struct player *player) {
 }
 
 static void find_published(struct player *player) {
-    uint32_t owner = below(player, now.players);
+    uint32_t owner = below(player, now.players < PUBLISHERS ? now.players : PUBLISHERS);
     uint64_t word = 0, sealed = 0;
     done(player, "load", lxr_mutator_load(player->mutator, FOUND, WORLD, PUBLISHED + owner));
     lxr_code code = lxr_mutator_get(player->mutator, FOUND, 0, &word);
@@ -499,7 +500,9 @@ static void play_once(struct player *player) {
     case 7: play_registers(player); break;
     case 8: play_token(player); break;
     case 9: play_counter(player); break;
-    case 10: publish(player); break;
+    case 10:
+        if (player->number < PUBLISHERS) publish(player);
+        break;
     case 11: play_several(player); break;
     default: find_published(player);
     }
@@ -509,7 +512,7 @@ static void play_once(struct player *player) {
 static void *play(void *with) {
     struct player *player = with;
     enter(player);
-    for (uint32_t left = OPERATIONS; left--;) play_once(player);
+    for (uint32_t left = OPERATIONS * FEW / (now.players < FEW ? FEW : now.players); left--;) play_once(player);
     leave(player, false);
     return NULL;
 }
@@ -560,15 +563,39 @@ static void take_stock(struct player *player) {
     done(player, "leave", lxr_mutator_leave(&player->mutator));
 }
 
+static uint32_t draw_up_to(uint64_t *dice, uint32_t most) { return 1 + (uint32_t)draw(dice) % most; }
+
+/* Mostly a small heap; a large one may have any size. */
+static uint32_t draw_blocks(uint64_t *dice) { return draw_up_to(dice, draw(dice) % 3 ? 32 : MOST_BLOCKS); }
+
+/* Mostly few threads. */
+static uint32_t draw_players(uint64_t *dice) { return draw_up_to(dice, draw(dice) % 8 ? FEW : LXR_MOST_MUTATORS); }
+
+/* Mostly the header's own; else any number that fits. */
+static uint32_t draw_evacuate(uint64_t *dice, const lxr_shared_heap_settings *settings) {
+    return draw(dice) % 2 ? settings->evacuate : (uint32_t)draw(dice) % (settings->blocks / 8 + 1);
+}
+
+/* As many mutators as threads, or one fewer, or any number above. */
+static uint32_t draw_mutators(uint64_t *dice) {
+    uint32_t kind = (uint32_t)draw(dice) % 4;
+    if (kind == 0 && now.players > 2) return now.players - 1;
+    return kind == 1 ? now.players + (uint32_t)draw(dice) % (LXR_MOST_MUTATORS + 1 - now.players) : now.players;
+}
+
+/* So few that names are renewed in time; an operation of a mutator after the sixteenth counts sixteen times for that. */
+static uint32_t draw_renewing(uint64_t *dice) { return 20 + (uint32_t)draw(dice) % (now.players > FEW ? 20 : 100); }
+
 static lxr_shared_heap_settings draw_settings(uint64_t *dice) {
-    lxr_shared_heap_settings settings = LXR_SHARED_HEAP_SETTINGS(8 + (uint32_t)draw(dice) % 24, now.players);
+    uint32_t blocks = draw_blocks(dice), mutators = draw_mutators(dice);
+    lxr_shared_heap_settings settings = LXR_SHARED_HEAP_SETTINGS(blocks, mutators);
+    settings.evacuate = draw_evacuate(dice, &settings);
     settings.helpers = (uint32_t)draw(dice) % 3;
-    settings.every = RENEWS ? 20 + (uint32_t)draw(dice) % 100 : draw(dice) % 2 ? 20 + (uint32_t)draw(dice) % 500 : 65536;
+    settings.every = RENEWS ? draw_renewing(dice) : draw(dice) % 2 ? 20 + (uint32_t)draw(dice) % 500 : 65536;
     settings.log = draw(dice) % 2 ? 8 : 1024;
     settings.pace = draw(dice) % 3 == 0 ? LXR_PACE_ROOM : draw(dice) % 2 ? LXR_PACE_NEVER : 1 + draw(dice) % 20000;
     settings.trace = 1 + (uint32_t)draw(dice) % 8;
     settings.within = 1 + (uint32_t)draw(dice) % 4;
-    if (now.players > 2 && draw(dice) % 4 == 0) settings.mutators = now.players - 1;
     return settings;
 }
 
@@ -585,10 +612,10 @@ static void count_round(struct player *keeper) {
 
 static void play_round(uint64_t seed) {
     uint64_t dice = seed * 7919 + 17;
-    struct player keeper = { .number = 99, .dice = seed };
+    struct player keeper = { .number = LXR_MOST_MUTATORS, .dice = seed };
     memset(&now, 0, sizeof now);
     now.seed = seed;
-    now.players = 1 + (uint32_t)draw(&dice) % LXR_MOST_MUTATORS;
+    now.players = draw_players(&dice);
     now.tokens = (uint32_t)draw(&dice) % TOKEN_PLACES;
     lxr_shared_heap_settings settings = draw_settings(&dice);
     pthread_t threads[LXR_MOST_MUTATORS];

@@ -3,7 +3,8 @@
  *
  * Linked with -Wl,--wrap=malloc,--wrap=calloc,--wrap=realloc,--wrap=free, so that each request of the library's and the archive's comes
  * through here. The Nth request is refused, and all after it, for N from 0 until none is: then an opening or an entering says
- * LXR_E_MEMORY, or operations say LXR_E_LOST, after a pause; the thread can leave, the heap can be closed, and all memory is returned.
+ * LXR_E_MEMORY, or operations say LXR_E_LOST, after a pause; the thread can leave, the heap can be closed, and all memory is returned. So are
+ * the requests of an opening with all mutators, and those of more than 1 GB, of which the largest heap is opened by one.
  */
 #include "../lxr_threads.h"
 
@@ -12,10 +13,20 @@
 #include <stdio.h>
 #include <stdlib.h>
 
-/* How many requests are granted, how many were made, how many blocks of memory are held, and whether a request was refused. */
+/* The mock of the archive takes no memory for blocks. */
+#ifdef MOCK_PASSES
+static const bool mocked = true;
+#else
+static const bool mocked = false;
+#endif
+
+/*
+ * How many requests are granted, and of how many bytes each at most; how many were made, how many blocks of memory are held, and whether a
+ * request was refused.
+ */
 static struct {
     pthread_mutex_t lock;
-    size_t granted, asked, held;
+    size_t granted, most, asked, held;
     bool refused, watched;
 } memory = { .lock = PTHREAD_MUTEX_INITIALIZER };
 
@@ -28,9 +39,9 @@ void *__wrap_calloc(size_t count, size_t bytes);
 void *__wrap_realloc(void *old, size_t bytes);
 void __wrap_free(void *old);
 
-static bool refuse(void) {
+static bool refuse(size_t bytes) {
     pthread_mutex_lock(&memory.lock);
-    if (memory.watched && memory.asked++ >= memory.granted) memory.refused = true;
+    if (memory.watched && (memory.asked++ >= memory.granted || bytes > memory.most)) memory.refused = true;
     bool refused = memory.refused && memory.watched;
     pthread_mutex_unlock(&memory.lock);
     return refused;
@@ -45,12 +56,12 @@ static void *hold(void *got, const void *returned) {
     return got;
 }
 
-void *__wrap_malloc(size_t bytes) { return refuse() ? NULL : hold(__real_malloc(bytes), NULL); }
+void *__wrap_malloc(size_t bytes) { return refuse(bytes) ? NULL : hold(__real_malloc(bytes), NULL); }
 
-void *__wrap_calloc(size_t count, size_t bytes) { return refuse() ? NULL : hold(__real_calloc(count, bytes), NULL); }
+void *__wrap_calloc(size_t count, size_t bytes) { return refuse(count * bytes) ? NULL : hold(__real_calloc(count, bytes), NULL); }
 
 void *__wrap_realloc(void *old, size_t bytes) {
-    if (refuse()) return NULL;
+    if (refuse(bytes)) return NULL;
     hold(NULL, old);
     return hold(__real_realloc(old, bytes), NULL);
 }
@@ -94,15 +105,21 @@ static void see_loss(lxr_mutator *mutator) {
     check(lxr_mutator_wake(mutator) == LXR_E_LOST, "wake in a heap that is lost");
 }
 
-/* Opens a heap, and lives in it for a while; whether no request was refused. */
-static bool is_enough(void) {
+/* A heap of so many blocks and mutators, where there is memory for one. */
+static lxr_shared_heap *open_heap(uint32_t blocks, uint32_t mutators) {
     lxr_shared_heap *heap = NULL;
-    lxr_mutator *mutator = NULL;
-    const lxr_shared_heap_settings settings = LXR_SHARED_HEAP_SETTINGS(8, 2);
+    const lxr_shared_heap_settings settings = LXR_SHARED_HEAP_SETTINGS(blocks, mutators);
     lxr_code code = lxr_shared_heap_open(&heap, &settings);
     check(code == (heap ? LXR_OK : LXR_E_MEMORY), "an opening says something else than LXR_E_MEMORY");
+    return heap;
+}
+
+/* Opens a heap, and lives in it for a while; whether no request was refused. */
+static bool is_enough_to_live(void) {
+    lxr_shared_heap *heap = open_heap(8, 2);
+    lxr_mutator *mutator = NULL;
     if (!heap) return false;
-    code = lxr_mutator_enter(heap, &mutator);
+    lxr_code code = lxr_mutator_enter(heap, &mutator);
     check(code == (mutator ? LXR_OK : LXR_E_MEMORY), "an entering says something else than LXR_E_MEMORY");
     if (mutator) {
         if (!live(mutator)) see_loss(mutator);
@@ -112,18 +129,44 @@ static bool is_enough(void) {
     return !memory.refused;
 }
 
-int main(void) {
-    bool enough = false;
+/* Opens a heap of all mutators; whether no request was refused. */
+static bool is_enough_to_open(void) {
+    lxr_shared_heap *heap = open_heap(1100, LXR_MOST_MUTATORS);
+    if (heap) check(lxr_shared_heap_close(&heap) == LXR_OK, "a heap can't be closed");
+    return !memory.refused;
+}
+
+/* Tries to open the largest heap, while no request of more than 1 GB is granted. */
+static bool is_refused(void) {
+    lxr_shared_heap *heap = open_heap(LXR_MOST_SHARED_BLOCKS, 1);
+    check(heap ? mocked : memory.refused, "the largest heap takes less than 1 GB");
+    if (heap) check(lxr_shared_heap_close(&heap) == LXR_OK, "a heap can't be closed");
+    return memory.refused;
+}
+
+/* Does something while so many requests are granted, and of no more bytes. */
+static bool watch(bool (*what)(void), size_t granted, size_t most) {
+    memory.granted = granted;
+    memory.most = most;
+    memory.asked = memory.held = 0;
+    memory.refused = false;
+    memory.watched = true;
+    bool answer = what();
+    check(memory.held == 0, "memory is held by nobody");
+    memory.watched = false;
+    return answer;
+}
+
+/* How many requests are enough. */
+static size_t refuse_each(bool (*is_enough)(void)) {
     size_t requests = 0;
-    for (; !enough; requests++) {
-        memory.granted = requests;
-        memory.asked = memory.held = 0;
-        memory.refused = false;
-        memory.watched = true;
-        enough = is_enough();
-        check(memory.held == 0, "memory is held by nobody");
-        memory.watched = false;
-    }
-    printf("threads_refused: %zu requests; each was refused\n", requests - 1);
+    while (!watch(is_enough, requests, SIZE_MAX)) requests++;
+    return requests;
+}
+
+int main(void) {
+    size_t requests = refuse_each(is_enough_to_live) + refuse_each(is_enough_to_open);
+    watch(is_refused, SIZE_MAX, (size_t)1 << 30);
+    printf("threads_refused: %zu requests; each was refused\n", requests);
     return 0;
 }

@@ -1,6 +1,7 @@
 // threads.cpp: tests of lxr_threads.hpp. SPDX: MIT OR Apache-2.0
 #include "lxr_threads.hpp"
 
+#include <algorithm>
 #include <atomic>
 #include <cstdint>
 #include <exception>
@@ -193,7 +194,8 @@ void errors() {
     lxr::mutator one(heap);
     lxr::local nil, pair = one.make(1, 1);
     CHECK(throws(lxr::errc::size, [] { lxr::shared_heap none(0, 1); }));
-    CHECK(throws(lxr::errc::size, [] { lxr::shared_heap none(1, 17); }));
+    CHECK(throws(lxr::errc::size, [] { lxr::shared_heap none(65537, 1); }));
+    CHECK(throws(lxr::errc::size, [] { lxr::shared_heap none(1, 256); }));
     CHECK(throws(lxr::errc::size, [&] { (void)(one.make(1024, 0)); }));
     CHECK(throws(lxr::errc::nil, [&] { (void)(nil.fetch_add(0, 1)); }));
     CHECK(throws(lxr::errc::nil, [&] { (void)(pair.load(0).get(0)); }));
@@ -219,6 +221,23 @@ void paces() {
         lxr::mutator self(heap);
         for (int made = 0; made < 1280; ++made) (void)self.make(1, 1);
         CHECK(heap.pauses() == (pace == 4096 ? 10 : 0));
+    }
+}
+
+/// By the header's settings an eighth of the blocks is evacuated at most, and at most 64; and any number up to an eighth will do.
+void evacuates() {
+    for (const std::uint32_t blocks : {1U, 8U, 500U, 600U, 1500U}) {
+        lxr_shared_heap_settings settings = LXR_SHARED_HEAP_SETTINGS(blocks, 255);
+        CHECK(settings.evacuate == std::min(blocks / 8, 64U));
+        for (const std::uint32_t evacuate : {0U, settings.evacuate, blocks / 8}) {
+            settings.evacuate = evacuate;
+            const lxr::shared_heap heap(settings);
+            lxr::mutator self(heap);
+            self.collect();
+            CHECK(heap.collected() == 1);
+        }
+        settings.evacuate = blocks / 8 + 1;
+        CHECK(throws(lxr::errc::size, [&] { lxr::shared_heap none(settings); }));
     }
 }
 
@@ -289,6 +308,7 @@ int main() {
         comings_and_goings();
         errors();
         paces();
+        evacuates();
         full_heaps();
     } catch (const std::exception& wrong) {
         std::cerr << wrong.what() << '\n';

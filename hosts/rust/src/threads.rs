@@ -58,9 +58,9 @@ use kogyulen_sys as raw;
 #[derive(Clone, Debug, PartialEq, Eq, Hash)]
 #[non_exhaustive]
 pub struct Settings {
-    /// Blocks of 32 KB, 1 to 1,024.
+    /// Blocks of 32 KB, 1 to 65,536.
     pub blocks: u32,
-    /// Mutators that may be in it at once, 1 to 16.
+    /// Mutators that may be in it at once, 1 to 255.
     pub mutators: u32,
     /// Threads of its own that do work of pauses ahead, 0 to 8.
     pub helpers: u32,
@@ -77,12 +77,26 @@ pub struct Settings {
     /// When plain pauses come by themselves: a mutator wants one once it has made its share of these bytes since the last, which is all of
     /// them divided by the mutators that are in the heap.
     pub pace: Pace,
+    /// Blocks that a trace evacuates at most, 0 to an eighth of all: the pause that ends it is the longer for them.
+    pub evacuate: u32,
 }
 
 impl Settings {
-    /// Settings that mostly do, for so many blocks and mutators.
+    /// Settings that mostly do, for so many blocks and mutators. A trace evacuates an eighth of the blocks at most, and at most 64.
     pub const fn new(blocks: u32, mutators: u32) -> Settings {
-        Settings { blocks, mutators, helpers: 1, log: 1024, remember: 65_536, every: 65_536, trace: 16, within: 4, pace: Pace::Room }
+        let evacuate = if blocks < 512 { blocks / 8 } else { 64 };
+        Settings {
+            blocks,
+            mutators,
+            helpers: 1,
+            log: 1024,
+            remember: 65_536,
+            every: 65_536,
+            trace: 16,
+            within: 4,
+            pace: Pace::Room,
+            evacuate,
+        }
     }
 
     /// So many helpers.
@@ -127,13 +141,19 @@ impl Settings {
         self
     }
 
+    /// So many blocks that a trace evacuates at most.
+    pub const fn evacuate(mut self, evacuate: u32) -> Settings {
+        self.evacuate = evacuate;
+        self
+    }
+
     fn raw(&self, watch: Option<&Watch>) -> raw::SharedSettings {
-        let &Settings { blocks, mutators, helpers, log, remember, every, trace, within, pace } = self;
-        let pace = pace.bytes();
+        let &Settings { blocks, mutators, helpers, log, remember, every, trace, within, pace, evacuate } = self;
+        let (pace, unused) = (pace.bytes(), 0);
         let size = size_of::<raw::SharedSettings>() as u64;
         let with = watch.map_or(ptr::null_mut(), |watch| (watch as *const Watch).cast_mut().cast());
         let paused = watch.map(|_| tell_of_pause as extern "C" fn(*mut c_void, *const raw::PauseTimes));
-        raw::SharedSettings { size, blocks, mutators, helpers, log, remember, every, trace, within, paused, with, pace }
+        raw::SharedSettings { size, blocks, mutators, helpers, log, remember, every, trace, within, paused, with, pace, evacuate, unused }
     }
 }
 

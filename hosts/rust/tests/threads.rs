@@ -159,6 +159,21 @@ fn plain_pauses_come_by_the_pace() -> Result<(), Error> {
 }
 
 #[test]
+fn up_to_an_eighth_of_the_blocks_is_evacuated() -> Result<(), Error> {
+    for blocks in [1, 8, 500, 600, 1500] {
+        let settings = Settings::new(blocks, 255);
+        assert_eq!(settings.evacuate, (blocks / 8).min(64));
+        for evacuate in [0, settings.evacuate, blocks / 8] {
+            let heap = SharedHeap::open(&settings.clone().evacuate(evacuate))?;
+            heap.enter()?.collect()?;
+            assert_eq!(heap.count(Count::Collecting), 1);
+        }
+        assert_eq!(SharedHeap::open(&settings.evacuate(blocks / 8 + 1)).err(), Some(Error::Size));
+    }
+    Ok(())
+}
+
+#[test]
 fn each_pause_is_told() -> Result<(), Error> {
     let told = Arc::new(Mutex::new(Vec::new()));
     let heap = SharedHeap::open_watched(&Settings::new(4, 1), {
@@ -225,7 +240,8 @@ fn threads_come_and_go() -> Result<(), Error> {
 #[test]
 fn what_cannot_be_done_is_told() -> Result<(), Error> {
     assert_eq!(SharedHeap::open(&Settings::new(0, 1)).err(), Some(Error::Size));
-    assert_eq!(SharedHeap::open(&Settings::new(1, 17)).err(), Some(Error::Size));
+    assert_eq!(SharedHeap::open(&Settings::new(65_537, 1)).err(), Some(Error::Size));
+    assert_eq!(SharedHeap::open(&Settings::new(1, 256)).err(), Some(Error::Size));
     let heap = open(1, 1);
     let mut own = heap.enter()?;
     own.make(R1, 2, 3)?;

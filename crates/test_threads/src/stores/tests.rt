@@ -14,6 +14,7 @@ const LIMITS: Limits = Limits {
     threads: 16,
     log: 1,
     remember: 1,
+    evacuate: 0,
 };
 
 /// The reference: heap word 67.

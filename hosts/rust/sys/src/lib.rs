@@ -137,9 +137,9 @@ extern "C" {
     pub fn lxr_count(heap: *const Handle, what: u32, number: *mut u64) -> Code;
 }
 
-pub const LXR_MOST_MUTATORS: u32 = 16;
+pub const LXR_MOST_MUTATORS: u32 = 255;
 pub const LXR_MOST_HELPERS: u32 = 8;
-pub const LXR_MOST_SHARED_BLOCKS: u32 = 1024;
+pub const LXR_MOST_SHARED_BLOCKS: u32 = 65536;
 pub const LXR_MOST_LOG: u32 = 65536;
 pub const LXR_MOST_REMEMBER: u32 = 1048576;
 pub const LXR_MOST_EVERY: u32 = 1000000;
@@ -181,6 +181,8 @@ pub struct SharedSettings {
     pub paused: Option<extern "C" fn(with: *mut c_void, times: *const PauseTimes)>,
     pub with: *mut c_void,
     pub pace: u64,
+    pub evacuate: u32,
+    pub unused: u32,
 }
 
 /// What `lxr_pause_times` is.
@@ -258,6 +260,8 @@ pub struct PassesSettings {
     pub every: u32,
     pub trace: u32,
     pub within: u32,
+    pub evacuate: u32,
+    pub unused: u32,
 }
 
 extern "C" {

@@ -1,5 +1,5 @@
-use Rattle.std.proofs.Common.{◌∙◌, refl}
+use Rattle.std.proofs.Common.{refl}
 use Rattle.lxr_c_shared.proofs.sharing.count_asked.Goals as goal
 
 pub returns-in-Some : goal.returns-in-Some
-returns-in-Some c = (c.in-Some.ensures.some.0 refl, λ script h is. c.from.ensures ∙ c.in-Some.ensures.most script h is)
+returns-in-Some c = (c.in-Some.ensures.some.0 refl, c.in-Some.ensures.most)

@@ -1,4 +1,4 @@
-use Rattle.std.proofs.Common.{◌≡◌, ◌∙◌, ap, arith}
+use Rattle.std.proofs.Common.{◌∙◌, ap, arith}
 use Rattle.lxr_image.specs.Reads.{slots_of}
 use Rattle.lxr_pause_increments.proofs.HeldLemmas.{holder_header, holder_place}
 use Rattle.lxr_pause_increments.proofs.order.reference_slots.Goals as goal

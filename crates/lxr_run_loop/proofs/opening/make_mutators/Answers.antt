@@ -1,7 +1,7 @@
 use Rattle.std.proofs.Common.{rules, arith, ◌≡◌, ◌+◌, ap, sym, ◌∙◌, [], ◌∷◌, ◌++◌, length, append_assoc}
 use Rattle.std.specs.Vec.Iter.{into_iter_items}
 use Rattle.lxr_mutator.specs.Mutators.{first}
-use Rattle.lxr_run_loop.proofs.OpeningLemmas.{all_operations, made_pushed, thread_of}
+use Rattle.lxr_run_loop.proofs.OpeningLemmas.{all_operations, few_written, made_pushed, thread_of}
 use Rattle.lxr_run_loop.proofs.opening.make_mutators.Goals as goal
 
 pub new-requires-clause-operations : goal.new-requires-clause-operations
@@ -14,8 +14,7 @@ pub new-requires-clause-few : goal.new-requires-clause-few
 new-requires-clause-few c =
     let before = c.loop-operations.invariant.taken in
     let split = before.1 ∙ ap (λ xs. before.0 ++ xs) c.in-Some.ensures.steps.0 in
-    let few = (thread_of c.args.script.items before.0 (into_iter_items c.next.new.self) c.in-Some.operations split c.requires.script).count in
-    omega (arith, few)
+    few_written _ (length c.in-Some.operations.items) (thread_of c.args.script.items before.0 (into_iter_items c.next.new.self) c.in-Some.operations split c.requires.script).count
 
 pub loop-operations-preserved : goal.loop-operations-preserved
 loop-operations-preserved c =

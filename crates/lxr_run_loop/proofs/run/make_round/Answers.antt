@@ -1,7 +1,6 @@
-use Rattle.std.proofs.Common.{◌≡◌, ◌∙◌, ◌≤◌, ap, refl, subst, sym}
+use Rattle.std.proofs.Common.{◌∙◌, ap, refl, subst, sym}
 use Rattle.std.proofs.lemmas.Result.{IfErr-at_err, IfErr-weaker, IfOk-weaker}
 use Rattle.lxr_one_pause.specs.Deciding.{IsPace}
-use Rattle.lxr_text_stream.specs.Streams.{Rose}
 use Rattle.lxr_words.specs.declared.Options.{Options}
 use Rattle.lxr_rounds_invariant.specs.LoopInvariant.{pace_of}
 use Rattle.lxr_rounds.specs.Observing.{Tells}

@@ -30,7 +30,7 @@ renew_where_due-requires g c =
       rested.history,
       rested.stands.0,
       subst (λ xs. StandsIdle c.args.settings script c.rest.new.space xs rested.history rested.stands.0 (not c.some_waits-idle.result)) (sym c.deref_mut.ensures.value)
-          (idle_stands c.args.settings script calls c.args.actors.items c.rest.new.space c.rest.new.actors.items rested c.requires.live c.some_waits-idle.result (c.some_waits-idle.ensures ∙ ap (list_any waits) c.deref.ensures.value)),
+          (idle_stands c.args.settings script calls c.args.actors.items c.rest.new.space c.rest.new.actors.items rested ran.actors_rest.mutators c.requires.live c.some_waits-idle.result (c.some_waits-idle.ensures ∙ ap (list_any waits) c.deref.ensures.value)),
     )
 
 pub returns-then-rest : goal.returns-then-rest
@@ -64,7 +64,7 @@ returns-else-rest g c = λ script before calls m ran newest. (
     let idle = not c.some_waits-idle.result in
     let space = c.rest.new.space in
     let actors = c.rest.new.actors.items in
-    let stands = idle_stands c.args.settings script calls c.args.actors.items space actors rested c.requires.live c.some_waits-idle.result (c.some_waits-idle.ensures ∙ ap (list_any waits) c.deref.ensures.value) in
+    let stands = idle_stands c.args.settings script calls c.args.actors.items space actors rested ran.actors_rest.mutators c.requires.live c.some_waits-idle.result (c.some_waits-idle.ensures ∙ ap (list_any waits) c.deref.ensures.value) in
     let renews = subst (λ xs. RenewsWhere (idle && is_renewal_due space xs) space xs idle c.renew_where_due.new.space c.renew_where_due.new.actors) c.deref_mut.ensures.value c.renew_where_due.ensures in
     let due = idle && is_renewal_due space actors in
     let now = newest_behind (run_of c.args.settings script) rested.report calls (mutators_in c.args.actors.items) space actors rested.history rested.stands.0 rested.behind rested.stands.1 newest in

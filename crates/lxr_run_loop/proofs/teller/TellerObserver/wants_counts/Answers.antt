@@ -1,4 +1,4 @@
-use Rattle.std.proofs.Common.{◌≡◌, ◌∙◌, sym}
+use Rattle.std.proofs.Common.{◌∙◌, sym}
 use Rattle.lxr_run_loop.proofs.TellerLemmas.{printed_drains}
 use Rattle.lxr_run_loop.proofs.teller.TellerObserver.wants_counts.Goals as goal
 

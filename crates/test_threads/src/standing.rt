@@ -1,7 +1,7 @@
-//! Rows of relays: what goes in, and what comes back, whatever the number of threads.
+//! Values relayed among standing threads: rows of what goes in, and what comes back, whatever the number of threads.
 ghost use Rattle.std.specs.Prelude.{◌↔◌, ◌<◌, All, IsTrue};
 
-use crate::{Turns, relay};
+use lxr_stand::{Turns, relay};
 use std::alloc::{AllocError, Global};
 use std::process::Abort;
 use std::sync::Wait;
