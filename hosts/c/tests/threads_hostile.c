@@ -108,15 +108,16 @@ static void try_sizes(void) {
 
 /* Settings of version 0.2 are taken, and nothing is read that stands after them. */
 static void try_first(void) {
-    const lxr_shared_heap_settings good = LXR_SHARED_HEAP_SETTINGS(8, 2);
+    lxr_shared_heap_settings wanted = LXR_SHARED_HEAP_SETTINGS(8, 2);
     lxr_shared_heap *heap = NULL;
-    lxr_shared_heap_settings *settings = malloc(FIRST);
+    void *settings = malloc(FIRST);
     IS(settings != NULL, 1);
-    memcpy(settings, &good, FIRST);
-    settings->size = FIRST;
+    wanted.size = FIRST;
+    memcpy(settings, &wanted, FIRST);
     IS(lxr_shared_heap_open(&heap, settings), LXR_OK);
     IS(lxr_shared_heap_close(&heap), LXR_OK);
-    settings->mutators = 256;
+    wanted.mutators = 256;
+    memcpy(settings, &wanted, FIRST);
     IS(lxr_shared_heap_open(&heap, settings), LXR_E_SIZE);
     free(settings);
 }
