@@ -72,9 +72,9 @@ typedef struct lxr_pause_times {
  * after the sixteenth after a sixteenth of that.
  *
  * `evacuate` is how many blocks a trace chooses at most as it begins, among those of whose 128 lines some are taken, and at most 32: in a
- * heap of up to 1,024 blocks the first ones, and in a larger one those with the fewest. What lives in them as the trace ends is copied elsewhere by that
- * pause, which is the longer for it, and they are whole again. By 0 none is, and what is old stays where it is. Settings of version 0.2, which
- * end before `evacuate`, are taken: then that is an eighth of the blocks.
+ * heap of up to 1,024 blocks the first ones, and in a larger one those with the fewest. What lives in them as the trace ends is copied
+ * elsewhere by that pause, which is the longer for it, and they are whole again. By 0 none is, and what is old stays where it is. Settings of
+ * version 0.2, which end before `evacuate`, are taken: then that is an eighth of the blocks.
  */
 typedef struct lxr_shared_heap_settings {
     uint64_t size;     /* sizeof(lxr_shared_heap_settings) */

@@ -123,8 +123,8 @@ public:
     shared_heap(std::uint32_t blocks, std::uint32_t mutators)
         : shared_heap(lxr_shared_heap_settings LXR_SHARED_HEAP_SETTINGS(blocks, mutators)) {}
 
-    /// Opens a heap of these settings, among them the pace and what a trace evacuates, and starts its helpers. Its `paused` is told of each pause by the thread that
-    /// made it, and throws nothing.
+    /// Opens a heap of these settings, among them the pace and what a trace evacuates, and starts its helpers. Its `paused` is told of each
+    /// pause by the thread that made it, and throws nothing.
     explicit shared_heap(const lxr_shared_heap_settings& settings) {
         lxr_shared_heap* opened = nullptr;
         detail::done(lxr_shared_heap_open(&opened, &settings));

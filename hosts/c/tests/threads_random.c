@@ -5,9 +5,9 @@
  *
  * A round opens a heap of 1 to 3,000 blocks, of which a trace evacuates up to an eighth, for 1 to 255 mutators, and starts threads: mostly up
  * to sixteen, and rarely more. They enter and leave it, rest, poll, ask for pauses, and make some thousand operations each, or as many together
- * where they are more. What only one thread holds is kept beside the heap as a plain graph, and each code and word has to be that of the graph. What threads
- * share has to keep what they agree on: tokens that are swapped stay as many as they were, and one thread or field holds each; adds to a
- * counter lose nothing; and an object that a thread finds is one that was made whole before it was stored.
+ * where they are more. What only one thread holds is kept beside the heap as a plain graph, and each code and word has to be that of the graph.
+ * What threads share has to keep what they agree on: tokens that are swapped stay as many as they were, and one thread or field holds each;
+ * adds to a counter lose nothing; and an object that a thread finds is one that was made whole before it was stored.
  */
 #include "../lxr_threads.h"
 
