@@ -1,12 +1,12 @@
 /*
  * calls_lxr.c: what the calls of lxr.h cost. SPDX: MIT OR Apache-2.0
  *
- * usage: calls_lxr calls               each call, a line with its name and its nanoseconds
+ * usage: calls_lxr calls [REGISTERS]   each call, a line with its name and its nanoseconds
  *        calls_lxr new LIVE EVERY      a new object beside LIVE others: dropped at once, and put in the place of one of them
  *        calls_lxr pauses LIVE EVERY   the pauses while objects are replaced so
  *
- * The heap has three times what LIVE objects take. EVERY is how many new objects' bytes are made between two pauses, 0 for no pace, or
- * `room` for that of LXR_SETTINGS.
+ * The heap has 16 registers where nothing else is told, and three times what LIVE objects take. EVERY is how many new objects' bytes are
+ * made between two pauses, 0 for no pace, or `room` for that of LXR_SETTINGS.
  */
 #include "bench.h"
 
@@ -16,6 +16,7 @@
 enum { WORLD, TOP, TABLE, MADE, OBJECT, OTHER, BODY, SPARE };
 
 static lxr_heap heap;
+static uint32_t registers = LXR_REGISTERS;
 
 static void must(lxr_code code) {
     if (code == LXR_OK) return;
@@ -26,6 +27,7 @@ static void must(lxr_code code) {
 static void open_heap(uint32_t blocks, uint32_t body_blocks, uint64_t pace) {
     lxr_settings settings = LXR_SETTINGS(blocks, body_blocks);
     settings.pace = pace;
+    settings.registers = registers;
     must(lxr_open(&heap, &settings));
 }
 
@@ -99,6 +101,17 @@ static void measure_several(void) {
     MEASURE("  by eight calls", 50, 20000, do_each());
 }
 
+/* ---- All registers, and few of them ---- */
+
+static void measure_registers(void) {
+    for (uint32_t at = SPARE; at < registers; at++) must(lxr_move(&heap, at, OTHER));
+    must(lxr_pause(&heap));
+    MEASURE("lxr_pause, all registers hold an object", 20, 1000, lxr_pause(&heap));
+    MEASURE("lxr_registers_in_use, the first 8", 20, 1000, lxr_registers_in_use(&heap, SPARE + 1));
+    must(lxr_pause(&heap));
+    MEASURE("lxr_pause, the first 8 registers are in use", 20, 1000, lxr_pause(&heap));
+}
+
 /* ---- All calls ---- */
 
 static void measure_calls(void) {
@@ -136,6 +149,7 @@ static void measure_calls(void) {
     MEASURE("lxr_new of 4 words, dropped at once, a pause every 10,000", 5, 1000000, lxr_new(&heap, MADE, 2, 2));
     measure_several();
     MEASURE("lxr_large_new of one block, dropped at once", 20, 1000, lxr_large_new(&heap, BODY, 1));
+    measure_registers();
     must(lxr_close(&heap));
 }
 
@@ -192,7 +206,8 @@ static void measure_pauses(uint32_t live, const char *every) {
 }
 
 int main(int count, char **words) {
-    if (count == 2 && strcmp(words[1], "calls") == 0) {
+    if (count >= 2 && count <= 3 && strcmp(words[1], "calls") == 0) {
+        if (count == 3) registers = (uint32_t)strtoul(words[2], NULL, 10);
         measure_calls();
     } else if (count == 4) {
         uint32_t live = (uint32_t)strtoul(words[2], NULL, 10);

@@ -4,10 +4,10 @@
  * An OBJECT has up to 1,023 references and up to 1,023 data words of 64 bits; their numbers are fixed when it is made. A LARGE OBJECT has
  * neither; it has a body of 1 to 128 blocks of 4,096 words each, which never moves. Objects have no addresses here, since pauses move them.
  *
- * A host holds objects by sixteen REGISTERS, numbers 0 to 15. A register is nil or holds an object. What the registers hold is kept, and
- * what kept objects refer to; all else is reclaimed by PAUSES, and nothing else ever is. At first register 0 holds the WORLD and the
- * others are nil: an object with 64 references and no data words, which is kept even where no register holds it. A frame of a call stack
- * is an object.
+ * A host holds objects by REGISTERS, which have numbers from 0 on: sixteen, or as many as the heap's settings say, up to 256. A register is
+ * nil or holds an object. What the registers hold is kept, and what kept objects refer to; all else is reclaimed by PAUSES, and nothing else
+ * ever is. At first register 0 holds the WORLD and the others are nil: an object with 64 references and no data words, which is kept even
+ * where no register holds it. A frame of a call stack is an object, or some of the registers.
  *
  * Each function but lxr_version and lxr_message takes a heap and answers a CODE. LXR_OK is 0. At any other code nothing has changed, no out
  * parameter was written, and the call may be made again; only pauses may have been made, by lxr_new, lxr_new_with and lxr_large_new, which
@@ -48,7 +48,8 @@ typedef struct lxr_heap {
     { 0, 0 }
 
 /* Limits. */
-#define LXR_REGISTERS        16u    /* registers of a heap */
+#define LXR_REGISTERS        16u    /* registers of a heap whose settings don't say how many, and the fewest that they may say */
+#define LXR_MOST_REGISTERS   256u   /* registers of a heap */
 #define LXR_WORLD_REFS       64u    /* references of the world */
 #define LXR_MOST_REFS        1023u  /* references of an object */
 #define LXR_MOST_WORDS       1023u  /* data words of an object */
@@ -62,8 +63,8 @@ typedef uint32_t lxr_code;
 #define LXR_OK         0u /* it is done */
 #define LXR_E_NO_HEAP  1u /* the handle is empty: it was never opened, or is closed */
 #define LXR_E_IN_USE   2u /* lxr_open: the handle has a heap already */
-#define LXR_E_REGISTER 3u /* a register is above 15, or stands where it can't */
-#define LXR_E_SIZE     4u /* a number of references, data words or blocks is out of its range, or the size of settings */
+#define LXR_E_REGISTER 3u /* the heap has no such register, or it stands where it can't */
+#define LXR_E_SIZE     4u /* a number of references, data words, blocks or registers is out of its range, or the size of settings */
 #define LXR_E_NIL      5u /* the base register is nil */
 #define LXR_E_INDEX    6u /* the object has no such reference or data word, or no body with such words */
 #define LXR_E_FULL     7u /* what can be reached leaves no room */
@@ -104,11 +105,14 @@ typedef struct lxr_settings {
     uint32_t blocks;      /* blocks of 32 KB for objects, 1 to 65,536 */
     uint32_t body_blocks; /* blocks of 32 KB for bodies, 1 to 65,536 */
     uint64_t pace;        /* as of lxr_set_pace */
+    uint32_t registers;   /* registers, 16 to 256; 0: 16, as of settings of version 0.2, which end before it */
+    uint32_t unused;      /* nothing is said here */
 } lxr_settings;
 
-/* Settings that mostly do, for so many blocks: plain pauses come by the room there is, and a collecting one where it is needed. */
+/* Settings that mostly do, for so many blocks: sixteen registers; plain pauses come by the room there is, and a collecting one where it is
+ * needed. */
 #define LXR_SETTINGS(blocks, body_blocks) \
-    { sizeof(lxr_settings), (blocks), (body_blocks), LXR_PACE_ROOM }
+    { sizeof(lxr_settings), (blocks), (body_blocks), LXR_PACE_ROOM, LXR_REGISTERS, 0 }
 
 /* The version of the archive: 65,536 times the major, 256 times the minor, and the patch number. */
 uint32_t lxr_version(void);
@@ -117,7 +121,8 @@ uint32_t lxr_version(void);
  * Opens a heap of these settings. All memory that the heap will ever use is reserved here, and returned by lxr_close; no other call asks for
  * memory. What is reserved is written as it is used, 32 KB at a time, so a system that promises more than it has may find out later, and end
  * the process then.
- * Codes: LXR_E_IN_USE; LXR_E_SIZE, where a number of blocks is out of its range, or `size` is none that the archive knows; LXR_E_MEMORY.
+ * Codes: LXR_E_IN_USE; LXR_E_SIZE, where a number of blocks or of registers is out of its range, or `size` is none that the archive knows;
+ * LXR_E_MEMORY.
  * Cost: grows with both numbers of blocks; a word and a byte are written for each of `blocks`, and a byte for each of `body_blocks`.
  */
 lxr_code lxr_open(lxr_heap *heap, const lxr_settings *settings);
@@ -190,6 +195,15 @@ lxr_code lxr_nil(lxr_heap *heap, uint32_t dest);
 lxr_code lxr_is_nil(const lxr_heap *heap, uint32_t source, uint32_t *is_nil);
 
 /*
+ * The first `count` registers stay in use, and each one from number `count` on is nil, as by lxr_nil: as where a call stack is cut back to
+ * its first `count` places. What a pause takes grows with the registers in use: it looks at all up to the last that holds an object, or did
+ * at the last pause. So a host that has 256 and uses 20 pays for 20.
+ * Codes: LXR_E_NO_HEAP; LXR_E_REGISTER, where `count` is 0 or more than the heap has: register 0 has the world, of which lxr_nil lets go.
+ * Cost: grows with the registers behind the first `count`.
+ */
+lxr_code lxr_registers_in_use(lxr_heap *heap, uint32_t count);
+
+/*
  * `*refs`, `*words` and `*blocks` become the numbers of references, of data words, and of blocks of the body of the object in register
  * `base`. `*blocks` is 0 exactly where it isn't a large object.
  * Codes: LXR_E_NO_HEAP, LXR_E_REGISTER, LXR_E_NIL. Cost: constant.
@@ -260,7 +274,7 @@ typedef struct lxr_operation {
 /*
  * Does `count` operations in order, each as its call with the pauses of that, up to the first whose code isn't LXR_OK; that code is answered.
  * `*done` becomes how many were LXR_OK, whatever is answered. The numbers of all are looked at before the first is done: where one has a
- * register above 15, a size out of its range, or is none that there is, the code is that of the first such, and nothing is done.
+ * register that the heap hasn't, a size out of its range, or is none that there is, the code is that of the first such, and nothing is done.
  * LXR_E_NIL, LXR_E_INDEX and LXR_E_FULL come at their operation, and those before it are done.
  * Codes: LXR_E_NO_HEAP, LXR_E_REGISTER, LXR_E_SIZE, LXR_E_NIL, LXR_E_INDEX, LXR_E_FULL, LXR_E_WHAT. Cost: that of its operations.
  */
@@ -306,8 +320,8 @@ lxr_code lxr_large_write(lxr_heap *heap, uint32_t base, uint32_t index, const ui
 /*
  * Makes a plain pause, by reference counts alone: it reclaims new objects that nothing keeps, and older ones whose counts fell to 0 by the
  * pause before. Cycles of older objects, and objects whose count has reached 15, wait for a collecting pause.
- * Code: LXR_E_NO_HEAP. Cost: grows with the new objects that are kept, with the stores since the last pause, with what is reclaimed, and
- * with the number of blocks.
+ * Code: LXR_E_NO_HEAP. Cost: grows with the new objects that are kept, with the stores since the last pause, with what is reclaimed, with the
+ * registers in use, and with the number of blocks.
  */
 lxr_code lxr_pause(lxr_heap *heap);
 

@@ -47,20 +47,20 @@ typedef struct lxr_station {
 
 /*
  * What a heap is made of; lxr_threads.h says more of it. The first word is the size of it all, as of lxr_settings. Settings of version 0.2,
- * which end before `evacuate`, are taken: then that is an eighth of the blocks.
+ * which end before `evacuate`, are taken: then that is an eighth of the blocks, and a mutator has sixteen registers.
  */
 typedef struct lxr_passes_settings {
-    uint64_t size;     /* sizeof(lxr_passes_settings) */
-    uint32_t blocks;   /* blocks of 32 KB, 1 to 65,536 */
-    uint32_t mutators; /* mutators, 1 to 255 */
-    uint32_t helpers;  /* helpers of each kind, 1 to 8 */
-    uint32_t log;      /* entries of a mutator's log, 1 to 65,536 */
-    uint32_t remember; /* entries of the remembered set, 1 to 1,048,576 */
-    uint32_t every;    /* operations of a mutator in an epoch, 1 to 1,048,576 */
-    uint32_t trace;    /* a pause whose number is a multiple of it begins a trace, 1 to 1,000,000 */
-    uint32_t within;   /* pauses within which a trace ends, 1 to 1,000,000 */
-    uint32_t evacuate; /* blocks that a trace evacuates at most, 0 to an eighth of all */
-    uint32_t unused;   /* nothing is said here */
+    uint64_t size;      /* sizeof(lxr_passes_settings) */
+    uint32_t blocks;    /* blocks of 32 KB, 1 to 65,536 */
+    uint32_t mutators;  /* mutators, 1 to 255 */
+    uint32_t helpers;   /* helpers of each kind, 1 to 8 */
+    uint32_t log;       /* entries of a mutator's log, 1 to 65,536 */
+    uint32_t remember;  /* entries of the remembered set, 1 to 1,048,576 */
+    uint32_t every;     /* operations of a mutator in an epoch, 1 to 1,048,576 */
+    uint32_t trace;     /* a pause whose number is a multiple of it begins a trace, 1 to 1,000,000 */
+    uint32_t within;    /* pauses within which a trace ends, 1 to 1,000,000 */
+    uint32_t evacuate;  /* blocks that a trace evacuates at most, 0 to an eighth of all */
+    uint32_t registers; /* registers of a mutator, 16 to 256; 0: 16 */
 } lxr_passes_settings;
 
 /* ---- A heap ---- */
@@ -151,10 +151,12 @@ lxr_code lxr_station_help(lxr_station *station, uint32_t units, uint32_t *more);
 /* ---- Operations of a mutator's station ---- */
 
 /*
- * Each operation is one of lxr_threads.h, with the codes that are said there and these: LXR_E_NO_HEAP; LXR_E_REGISTER; LXR_E_SIZE;
+ * Each operation is one of lxr_threads.h, with the codes that are said there and these: LXR_E_NO_HEAP; LXR_E_REGISTER, where a register is
+ * none of the mutator's, as many as the heap's settings say, or, while no pass of a mutator is away with the station, none of 256; LXR_E_SIZE;
  * LXR_E_HOME; LXR_E_KIND; LXR_E_ENDED; LXR_E_HELD, where a pause is wanted first: the operation isn't ordered; LXR_E_BUSY, where one that
  * waited has no answer yet; LXR_E_USED_UP; LXR_E_WAITS: it is ordered, and goes on after a pause, by lxr_station_answer. Any register may
- * be `dest`, so that register 0 holds the world at first alone.
+ * be `dest`, so that register 0 holds the world at first alone. A pause looks at a mutator's registers up to the last that holds an object, or
+ * did at the last pause; so a host that used many for a while and goes on with few makes the others nil.
  */
 lxr_code lxr_station_new(lxr_station *station, uint32_t dest, uint32_t refs, uint32_t words);
 lxr_code lxr_station_load(lxr_station *station, uint32_t dest, uint32_t base, uint32_t index);

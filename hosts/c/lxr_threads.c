@@ -97,7 +97,7 @@ struct lxr_mutator {
     uint32_t granted; /* what `left` and the pauses that it asked for began from */
     uint64_t made;    /* bytes of its objects since `granted` was set .. */
     uint64_t share;   /* .. until it asks for a pause */
-    uint32_t number;
+    uint32_t number, registers;
     bool collects;      /* after its next operation it asks for a collecting pause */
     uint64_t collected; /* collecting pauses, as its pass left its home */
     bool asked;         /* it has asked for one since, and told nobody yet */
@@ -454,6 +454,13 @@ lxr_code lxr_mutator_nil(lxr_mutator *mutator, uint32_t dest) {
     return code;
 }
 
+lxr_code lxr_mutator_registers_in_use(lxr_mutator *mutator, uint32_t count) {
+    lxr_code code = refusal(mutator);
+    if (code == LXR_OK && (count == 0 || count > mutator->registers)) return LXR_E_REGISTER;
+    for (uint32_t dest = count; code == LXR_OK && dest < mutator->registers; dest++) code = lxr_mutator_nil(mutator, dest);
+    return code;
+}
+
 lxr_code lxr_mutator_pause(lxr_mutator *mutator) {
     lxr_code code = refusal(mutator);
     return code == LXR_OK ? pause_once(mutator, false) : code;
@@ -474,17 +481,20 @@ lxr_code lxr_mutator_poll(lxr_mutator *mutator) {
 
 /* ---- Several at once ---- */
 
-/* Whether all of these are registers, and none of them is `but`. */
-static bool are_registers(const uint32_t *registers, size_t count, uint32_t but) {
+/* Whether it is the number of a register of the mutator. */
+static bool is_register(const lxr_mutator *mutator, uint64_t number) { return mutator && number < mutator->registers; }
+
+/* Whether all of these are, and none of them is `but`. */
+static bool are_registers(const lxr_mutator *mutator, const uint32_t *registers, size_t count, uint32_t but) {
     for (size_t at = 0; at < count; at++)
-        if (registers[at] >= LXR_REGISTERS || registers[at] == but) return false;
+        if (!is_register(mutator, registers[at]) || registers[at] == but) return false;
     return true;
 }
 
 /* The refusal of several operations with this base, whose other registers do or don't. */
 static lxr_code refusal_of_several(const lxr_mutator *mutator, uint32_t base, bool others) {
     lxr_code code = refusal(mutator);
-    return code == LXR_OK && (base >= LXR_REGISTERS || !others) ? LXR_E_REGISTER : code;
+    return code == LXR_OK && (!is_register(mutator, base) || !others) ? LXR_E_REGISTER : code;
 }
 
 lxr_code lxr_mutator_get_many(lxr_mutator *mutator, uint32_t base, uint32_t first, uint64_t *words, size_t count) {
@@ -500,21 +510,21 @@ lxr_code lxr_mutator_put_many(lxr_mutator *mutator, uint32_t base, uint32_t firs
 }
 
 lxr_code lxr_mutator_load_many(lxr_mutator *mutator, uint32_t base, uint32_t first, const uint32_t *registers, size_t count) {
-    bool fit = are_registers(registers, count, 0) && are_registers(registers, count ? count - 1 : 0, base);
+    bool fit = are_registers(mutator, registers, count, 0) && are_registers(mutator, registers, count ? count - 1 : 0, base);
     lxr_code code = refusal_of_several(mutator, base, fit);
     for (size_t at = 0; code == LXR_OK && at < count; at++) code = lxr_mutator_load(mutator, registers[at], base, first + (uint32_t)at);
     return code;
 }
 
 lxr_code lxr_mutator_store_many(lxr_mutator *mutator, uint32_t base, uint32_t first, const uint32_t *registers, size_t count) {
-    lxr_code code = refusal_of_several(mutator, base, are_registers(registers, count, LXR_REGISTERS));
+    lxr_code code = refusal_of_several(mutator, base, are_registers(mutator, registers, count, LXR_MOST_REGISTERS));
     for (size_t at = 0; code == LXR_OK && at < count; at++) code = lxr_mutator_store(mutator, base, first + (uint32_t)at, registers[at]);
     return code;
 }
 
 lxr_code lxr_mutator_new_with(lxr_mutator *mutator, uint32_t dest, const uint32_t *sources, size_t refs, const uint64_t *data,
                               size_t words) {
-    lxr_code code = refusal_of_several(mutator, dest, dest != 0 && are_registers(sources, refs, dest));
+    lxr_code code = refusal_of_several(mutator, dest, dest != 0 && are_registers(mutator, sources, refs, dest));
     if (code != LXR_OK) return code;
     if (refs > LXR_MOST_REFS || words > LXR_MOST_WORDS) return LXR_E_SIZE;
     code = lxr_mutator_new(mutator, dest, (uint32_t)refs, (uint32_t)words);
@@ -526,7 +536,7 @@ lxr_code lxr_mutator_new_with(lxr_mutator *mutator, uint32_t dest, const uint32_
 enum { IN_B = 1, IN_C = 2, IN_WORD = 4, WRITES = 8 };
 
 /* Whether an operation's numbers fit, or the code that says why they don't. */
-static lxr_code look_at(const lxr_operation *it) {
+static lxr_code look_at(const lxr_mutator *mutator, const lxr_operation *it) {
     static const unsigned kinds[] = {
         [LXR_OP_NEW] = WRITES, [LXR_OP_LOAD] = WRITES | IN_B,           [LXR_OP_STORE] = IN_C,
         [LXR_OP_SAME] = IN_B,  [LXR_OP_MOVE] = WRITES | IN_B,           [LXR_OP_NIL] = WRITES,
@@ -534,15 +544,15 @@ static lxr_code look_at(const lxr_operation *it) {
     };
     if (it->op >= sizeof kinds / sizeof *kinds) return LXR_E_WHAT;
     unsigned kind = kinds[it->op];
-    bool others = (!(kind & IN_B) || it->b < LXR_REGISTERS) && (!(kind & IN_C) || it->c < LXR_REGISTERS) &&
-                  (!(kind & IN_WORD) || it->word < LXR_REGISTERS);
-    if (it->a >= LXR_REGISTERS || (kind & WRITES && it->a == 0) || !others) return LXR_E_REGISTER;
+    bool others = (!(kind & IN_B) || is_register(mutator, it->b)) && (!(kind & IN_C) || is_register(mutator, it->c)) &&
+                  (!(kind & IN_WORD) || is_register(mutator, it->word));
+    if (!is_register(mutator, it->a) || (kind & WRITES && it->a == 0) || !others) return LXR_E_REGISTER;
     return it->op == LXR_OP_NEW && (it->b > LXR_MOST_REFS || it->c > LXR_MOST_WORDS) ? LXR_E_SIZE : LXR_OK;
 }
 
-static lxr_code look_at_all(const lxr_operation *operations, size_t count) {
+static lxr_code look_at_all(const lxr_mutator *mutator, const lxr_operation *operations, size_t count) {
     lxr_code code = LXR_OK;
-    for (size_t at = 0; code == LXR_OK && at < count; at++) code = look_at(&operations[at]);
+    for (size_t at = 0; code == LXR_OK && at < count; at++) code = look_at(mutator, &operations[at]);
     return code;
 }
 
@@ -581,7 +591,7 @@ static lxr_code operate(lxr_mutator *mutator, lxr_operation *it) {
 lxr_code lxr_mutator_apply(lxr_mutator *mutator, lxr_operation *operations, size_t count, size_t *done) {
     *done = 0;
     lxr_code code = refusal(mutator);
-    if (code == LXR_OK) code = look_at_all(operations, count);
+    if (code == LXR_OK) code = look_at_all(mutator, operations, count);
     while (code == LXR_OK && *done < count) {
         code = operate(mutator, &operations[*done]);
         if (code == LXR_OK) ++*done;
@@ -625,6 +635,7 @@ lxr_code lxr_mutator_enter(lxr_shared_heap *heap, lxr_mutator **handle) {
     lxr_mutator *mutator = calloc(1, sizeof *mutator);
     if (!mutator) return LXR_E_MEMORY;
     mutator->heap = heap;
+    mutator->registers = heap->settings.registers;
     pthread_mutex_lock(&heap->lock);
     wait_for_pause(heap);
     lxr_code code = take_number(mutator);
@@ -638,25 +649,12 @@ lxr_code lxr_mutator_enter(lxr_shared_heap *heap, lxr_mutator **handle) {
     return code;
 }
 
-/* Lets go of what the registers hold, but the world; whether they are all nil. */
-static bool clear_registers(lxr_mutator *mutator) {
-    uint64_t word = 0;
-    bool cleared = true;
-    for (uint32_t dest = 1; dest < LXR_REGISTERS && mutator->left; dest++) {
-        lxr_code code = LXR_E_HELD;
-        while (code == LXR_E_HELD) code = wait_through(mutator, lxr_station_nil(&mutator->station, dest), &word);
-        mutator->granted++;
-        cleared = cleared && code == LXR_OK;
-    }
-    return cleared;
-}
-
 lxr_code lxr_mutator_leave(lxr_mutator **handle) {
     lxr_mutator *mutator = *handle;
     if (!mutator) return LXR_E_NO_HEAP;
     lxr_shared_heap *heap = mutator->heap;
     if (!mutator->left && mutator->stopped != LXR_E_LOST) go_out(mutator);
-    bool spoiled = mutator->left && !clear_registers(mutator);
+    bool spoiled = mutator->left && lxr_mutator_registers_in_use(mutator, 1) != LXR_OK;
     bool out = mutator->left != 0;
     bring_home(mutator);
     place_of(mutator)->spoiled = spoiled;
@@ -748,8 +746,10 @@ static uint32_t start_helpers(lxr_shared_heap *heap) {
 static bool read_settings(lxr_shared_heap_settings *settings, const lxr_shared_heap_settings *from) {
     const size_t first = offsetof(lxr_shared_heap_settings, evacuate);
     if (from->size != sizeof *settings && from->size != first) return false;
+    settings->registers = 0;
     memcpy(settings, from, (size_t)from->size);
     if (from->size == first) settings->evacuate = settings->blocks / 8;
+    if (settings->registers == 0) settings->registers = LXR_REGISTERS;
     return true;
 }
 
@@ -780,6 +780,7 @@ static lxr_code open_passes(lxr_shared_heap *heap) {
         .trace = asked->trace,
         .within = asked->within,
         .evacuate = asked->evacuate,
+        .registers = asked->registers,
     };
     lxr_code code = lxr_passes_open(&heap->passes, &settings);
     if (code == LXR_OK) code = lxr_passes_resume(&heap->passes);

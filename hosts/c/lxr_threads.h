@@ -2,10 +2,10 @@
  * lxr_threads.h: a garbage-collected heap that threads share, whose collector is proved. SPDX: MIT OR Apache-2.0
  *
  * The objects are those of lxr.h, without large ones. Up to 255 threads make them, read and write them, and let go of them, all at once.
- * Each enters the heap and has a MUTATOR there: sixteen REGISTERS of its own, numbers 0 to 15, and the right to call. A register is nil or
- * holds an object; register 0 holds the WORLD, which is the same object for all mutators and has 64 references: what threads share they
- * find from there. As a thread enters, its other registers are nil. What registers hold is kept, and what kept objects refer to; all else
- * is reclaimed by PAUSES.
+ * Each enters the heap and has a MUTATOR there: REGISTERS of its own, sixteen or as many as the heap's settings say, up to 256, with numbers
+ * from 0 on, and the right to call. A register is nil or holds an object; register 0 holds the WORLD, which is the same object for all
+ * mutators and has 64 references: what threads share they find from there. As a thread enters, its other registers are nil. What registers
+ * hold is kept, and what kept objects refer to; all else is reclaimed by PAUSES.
  *
  * Operations of different threads that meet at one field are atomic and in one order for all (sequentially consistent): a load finds the
  * last store before it, a swap or an add is one step. Nothing else has to be ordered: no operation takes a lock or waits for another
@@ -73,8 +73,11 @@ typedef struct lxr_pause_times {
  *
  * `evacuate` is how many blocks a trace chooses at most as it begins, among those of whose 128 lines some are taken, and at most 32: in a
  * heap of up to 1,024 blocks the first ones, and in a larger one those with the fewest. What lives in them as the trace ends is copied
- * elsewhere by that pause, which is the longer for it, and they are whole again. By 0 none is, and what is old stays where it is. Settings of
- * version 0.2, which end before `evacuate`, are taken: then that is an eighth of the blocks.
+ * elsewhere by that pause, which is the longer for it, and they are whole again. By 0 none is, and what is old stays where it is.
+ *
+ * `registers` is how many registers each mutator has. What a pause takes grows with those in use alone (lxr_mutator_registers_in_use).
+ *
+ * Settings of version 0.2, which end before `evacuate`, are taken: then that is an eighth of the blocks, and there are sixteen registers.
  */
 typedef struct lxr_shared_heap_settings {
     uint64_t size;     /* sizeof(lxr_shared_heap_settings) */
@@ -91,19 +94,19 @@ typedef struct lxr_shared_heap_settings {
     void (*paused)(void *with, const lxr_pause_times *times);
     void *with; /* what it is told besides */
 
-    uint64_t pace;     /* bytes of new objects between two pauses, or LXR_PACE_NEVER, or LXR_PACE_ROOM */
-    uint32_t evacuate; /* blocks that a trace evacuates at most, 0 to an eighth of all */
-    uint32_t unused;   /* nothing is said here */
+    uint64_t pace;      /* bytes of new objects between two pauses, or LXR_PACE_NEVER, or LXR_PACE_ROOM */
+    uint32_t evacuate;  /* blocks that a trace evacuates at most, 0 to an eighth of all */
+    uint32_t registers; /* registers of each mutator, LXR_REGISTERS to LXR_MOST_REGISTERS; 0: LXR_REGISTERS */
 } lxr_shared_heap_settings;
 
 /*
- * Settings that mostly do, for so many blocks and mutators: plain pauses come by the size of the heap, and traces by themselves, each of which
- * evacuates an eighth of the blocks at most, and at most 64. `blocks` is evaluated more than once.
+ * Settings that mostly do, for so many blocks and mutators: sixteen registers each; plain pauses come by the size of the heap, and traces by
+ * themselves, each of which evacuates an eighth of the blocks at most, and at most 64. `blocks` is evaluated more than once.
  */
 #define LXR_SHARED_HEAP_SETTINGS(blocks, mutators) \
     { \
         sizeof(lxr_shared_heap_settings), (blocks), (mutators), 1, 1024, 65536, 65536, 16, 4, 0, 0, LXR_PACE_ROOM, \
-            (uint32_t)((blocks) < 512 ? (blocks) / 8 : 64), 0 \
+            (uint32_t)((blocks) < 512 ? (blocks) / 8 : 64), LXR_REGISTERS \
     }
 
 /* ---- A heap ---- */
@@ -145,7 +148,7 @@ lxr_code lxr_mutator_enter(lxr_shared_heap *heap, lxr_mutator **mutator);
 /*
  * Leaves the heap: the mutator lets go of what its registers hold, its place is free for another one, and the handle is null. So it is too
  * where the mutator rests, or where the heap is lost.
- * Code: LXR_E_NO_HEAP, where the handle is null. Cost: that of fifteen lxr_mutator_nil, and a lock.
+ * Code: LXR_E_NO_HEAP, where the handle is null. Cost: that of a lxr_mutator_nil for each register but the first, and a lock.
  */
 lxr_code lxr_mutator_leave(lxr_mutator **mutator);
 
@@ -170,7 +173,7 @@ lxr_code lxr_mutator_poll(lxr_mutator *mutator);
 /* ---- Operations ---- */
 
 /*
- * Registers are the mutator's own. `dest` is 1 to 15, since register 0 keeps the world; the others are 0 to 15. An operation and
+ * Registers are the mutator's own, as many as the heap's settings say. `dest` isn't 0, since register 0 keeps the world. An operation and
  * lxr_mutator_poll, _pause and _collect have these codes before their own: LXR_E_NO_HEAP, where the handle is null; LXR_E_RESTS, where the
  * mutator rests; LXR_E_LOST, where there was no memory to go on after a pause, so that the heap is only to be left and closed. A mutator
  * lives for ever: objects are given new names now and then, by a collecting pause. Only a heap that is so full through sixteen million
@@ -241,6 +244,15 @@ lxr_code lxr_mutator_move(lxr_mutator *mutator, uint32_t dest, uint32_t source);
  */
 lxr_code lxr_mutator_nil(lxr_mutator *mutator, uint32_t dest);
 
+/*
+ * The first `count` registers stay in use, and each one from number `count` on is nil, as by lxr_mutator_nil. What a pause takes grows with
+ * the registers in use: it looks at all of a mutator's up to the last that holds an object, or did at the last pause. So a mutator that has
+ * 256 and uses 20 makes it look at 20.
+ * Code: LXR_E_REGISTER, where `count` is 0 or more than the mutator has. Cost: that of a lxr_mutator_nil for each register behind the first
+ * `count`.
+ */
+lxr_code lxr_mutator_registers_in_use(lxr_mutator *mutator, uint32_t count);
+
 /* ---- Several at once ---- */
 
 /*
@@ -271,8 +283,8 @@ lxr_code lxr_mutator_get_many(lxr_mutator *mutator, uint32_t base, uint32_t firs
 lxr_code lxr_mutator_put_many(lxr_mutator *mutator, uint32_t base, uint32_t first, const uint64_t *words, size_t count);
 
 /*
- * A lxr_mutator_load of each of `count` references from `first` on, into registers 1 to 15. `base` may be the last of them; elsewhere among
- * them it is LXR_E_REGISTER.
+ * A lxr_mutator_load of each of `count` references from `first` on, into registers but the first. `base` may be the last of them; elsewhere
+ * among them it is LXR_E_REGISTER.
  * Codes: LXR_E_REGISTER, LXR_E_NIL, LXR_E_INDEX.
  */
 lxr_code lxr_mutator_load_many(lxr_mutator *mutator, uint32_t base, uint32_t first, const uint32_t *registers, size_t count);

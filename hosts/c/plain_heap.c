@@ -23,8 +23,9 @@ struct object {
 };
 
 struct heap {
-    struct object *registers[LXR_REGISTERS];
+    struct object *registers[LXR_MOST_REGISTERS];
     struct object *world, *newest;
+    uint32_t many; /* how many registers may be named */
     uint32_t blocks, body_blocks;
     uint64_t pauses, counts, made, live, promoted;
 };
@@ -65,7 +66,7 @@ static void each_reachable(struct heap *heap, each_object *each, void *with) {
     struct object *gray = NULL;
     heap->counts++;
     meet(heap, heap->world, &gray);
-    for (uint32_t at = 0; at < LXR_REGISTERS; at++) meet(heap, heap->registers[at], &gray);
+    for (uint32_t at = 0; at < heap->many; at++) meet(heap, heap->registers[at], &gray);
     while (gray) {
         struct object *it = gray;
         gray = it->gray;
@@ -87,7 +88,7 @@ static struct heap *heap_of(const lxr_heap *handle) { return handle->live ? hand
 static lxr_code find_base(const lxr_heap *handle, uint32_t base, struct object **found) {
     struct heap *heap = heap_of(handle);
     if (!heap) return LXR_E_NO_HEAP;
-    if (base >= LXR_REGISTERS) return LXR_E_REGISTER;
+    if (base >= heap->many) return LXR_E_REGISTER;
     *found = heap->registers[base];
     return *found ? LXR_OK : LXR_E_NIL;
 }
@@ -95,7 +96,7 @@ static lxr_code find_base(const lxr_heap *handle, uint32_t base, struct object *
 static lxr_code find_registers(const lxr_heap *handle, uint32_t left, uint32_t right, struct heap **found) {
     *found = heap_of(handle);
     if (!*found) return LXR_E_NO_HEAP;
-    return left < LXR_REGISTERS && right < LXR_REGISTERS ? LXR_OK : LXR_E_REGISTER;
+    return left < (*found)->many && right < (*found)->many ? LXR_OK : LXR_E_REGISTER;
 }
 
 /* Finds one of the data words of an object. */
@@ -109,9 +110,9 @@ static lxr_code find_word(const lxr_heap *handle, uint32_t base, uint32_t index,
 }
 
 /* Whether all of these are registers, and none of them is `but`. */
-static bool are_registers(const uint32_t *registers, size_t count, uint32_t but) {
+static bool are_registers(const struct heap *heap, const uint32_t *registers, size_t count, uint32_t but) {
     for (size_t at = 0; at < count; at++)
-        if (registers[at] >= LXR_REGISTERS || registers[at] == but) return false;
+        if (registers[at] >= heap->many || registers[at] == but) return false;
     return true;
 }
 
@@ -169,8 +170,18 @@ uint32_t lxr_version(void) { return LXR_VERSION; }
 
 static bool is_block_count(uint32_t blocks) { return blocks >= 1 && blocks <= LXR_MOST_BLOCKS; }
 
+/* The bytes of settings of version 0.2, which end before the registers. */
+enum { FIRST_BYTES = 24 };
+
+static uint32_t registers_of(const lxr_settings *settings) {
+    return settings->size == FIRST_BYTES || settings->registers == 0 ? LXR_REGISTERS : settings->registers;
+}
+
 static bool are_settings(const lxr_settings *settings) {
-    return settings->size == sizeof *settings && is_block_count(settings->blocks) && is_block_count(settings->body_blocks);
+    if (settings->size != FIRST_BYTES && settings->size != sizeof *settings) return false;
+    uint32_t many = registers_of(settings);
+    if (many < LXR_REGISTERS || many > LXR_MOST_REGISTERS) return false;
+    return is_block_count(settings->blocks) && is_block_count(settings->body_blocks);
 }
 
 lxr_code lxr_open(lxr_heap *handle, const lxr_settings *settings) {
@@ -184,6 +195,7 @@ lxr_code lxr_open(lxr_heap *handle, const lxr_settings *settings) {
         return LXR_E_MEMORY;
     }
     heap->registers[0] = heap->world;
+    heap->many = registers_of(settings);
     heap->blocks = settings->blocks;
     heap->body_blocks = settings->body_blocks;
     handle->live = 1;
@@ -266,7 +278,7 @@ lxr_code lxr_new_with(lxr_heap *handle, uint32_t dest, const uint32_t *sources, 
     struct heap *heap = NULL;
     lxr_code code = find_registers(handle, dest, dest, &heap);
     if (code != LXR_OK) return code;
-    if (!are_registers(sources, refs, dest)) return LXR_E_REGISTER;
+    if (!are_registers(heap, sources, refs, dest)) return LXR_E_REGISTER;
     if (refs > LXR_MOST_REFS || words > LXR_MOST_WORDS) return LXR_E_SIZE;
     code = hold_new(heap, dest, (uint32_t)refs, (uint32_t)words, 0);
     if (code != LXR_OK) return code;
@@ -290,8 +302,8 @@ lxr_code lxr_put_many(lxr_heap *handle, uint32_t base, uint32_t first, const uin
 }
 
 /* Whether references of the object in a register may be loaded so: that register is the last of them at most. */
-static bool are_targets(const uint32_t *registers, size_t count, uint32_t base) {
-    return count == 0 || (are_registers(registers, count - 1, base) && registers[count - 1] < LXR_REGISTERS);
+static bool are_targets(const struct heap *heap, const uint32_t *registers, size_t count, uint32_t base) {
+    return count == 0 || (are_registers(heap, registers, count - 1, base) && registers[count - 1] < heap->many);
 }
 
 lxr_code lxr_load_many(lxr_heap *handle, uint32_t base, uint32_t first, const uint32_t *registers, size_t count) {
@@ -299,7 +311,7 @@ lxr_code lxr_load_many(lxr_heap *handle, uint32_t base, uint32_t first, const ui
     struct object **found = NULL;
     lxr_code code = find_registers(handle, base, base, &heap);
     if (code != LXR_OK) return code;
-    if (!are_targets(registers, count, base)) return LXR_E_REGISTER;
+    if (!are_targets(heap, registers, count, base)) return LXR_E_REGISTER;
     code = find_refs(handle, base, first, count, &found);
     if (code != LXR_OK) return code;
     for (size_t at = 0; at < count; at++) heap->registers[registers[at]] = found[at];
@@ -311,7 +323,7 @@ lxr_code lxr_store_many(lxr_heap *handle, uint32_t base, uint32_t first, const u
     struct object **found = NULL;
     lxr_code code = find_registers(handle, base, base, &heap);
     if (code != LXR_OK) return code;
-    if (!are_registers(registers, count, LXR_REGISTERS)) return LXR_E_REGISTER;
+    if (!are_registers(heap, registers, count, heap->many)) return LXR_E_REGISTER;
     code = find_refs(handle, base, first, count, &found);
     if (code == LXR_OK) fill_refs(heap, found, registers, count);
     return code;
@@ -373,6 +385,14 @@ lxr_code lxr_is_nil(const lxr_heap *handle, uint32_t source, uint32_t *is_nil) {
     return code;
 }
 
+lxr_code lxr_registers_in_use(lxr_heap *handle, uint32_t count) {
+    struct heap *heap = heap_of(handle);
+    if (!heap) return LXR_E_NO_HEAP;
+    if (count == 0 || count > heap->many) return LXR_E_REGISTER;
+    for (uint32_t at = count; at < heap->many; at++) heap->registers[at] = NULL;
+    return LXR_OK;
+}
+
 lxr_code lxr_shape(const lxr_heap *handle, uint32_t base, uint32_t *refs, uint32_t *words, uint32_t *blocks) {
     struct object *it = NULL;
     lxr_code code = find_base(handle, base, &it);
@@ -387,20 +407,20 @@ lxr_code lxr_shape(const lxr_heap *handle, uint32_t base, uint32_t *refs, uint32
 enum { A = 1, B = 2, C = 4 };
 
 /* Whether an operation's numbers fit, or the code that says why they don't. */
-static lxr_code look_at(const lxr_operation *it) {
+static lxr_code look_at(const struct heap *heap, const lxr_operation *it) {
     static const unsigned kinds[] = {
         [LXR_OP_NEW] = A,      [LXR_OP_LOAD] = A | B, [LXR_OP_STORE] = A | C, [LXR_OP_GET] = A,    [LXR_OP_PUT] = A,
         [LXR_OP_SAME] = A | B, [LXR_OP_MOVE] = A | B, [LXR_OP_NIL] = A,       [LXR_OP_IS_NIL] = A,
     };
     if (it->op >= sizeof kinds / sizeof *kinds) return LXR_E_WHAT;
     unsigned kind = kinds[it->op];
-    if (it->a >= LXR_REGISTERS || (kind & B && it->b >= LXR_REGISTERS) || (kind & C && it->c >= LXR_REGISTERS)) return LXR_E_REGISTER;
+    if (it->a >= heap->many || (kind & B && it->b >= heap->many) || (kind & C && it->c >= heap->many)) return LXR_E_REGISTER;
     return it->op == LXR_OP_NEW && (it->b > LXR_MOST_REFS || it->c > LXR_MOST_WORDS) ? LXR_E_SIZE : LXR_OK;
 }
 
-static lxr_code look_at_all(const lxr_operation *operations, size_t count) {
+static lxr_code look_at_all(const struct heap *heap, const lxr_operation *operations, size_t count) {
     lxr_code code = LXR_OK;
-    for (size_t at = 0; at < count && code == LXR_OK; at++) code = look_at(&operations[at]);
+    for (size_t at = 0; at < count && code == LXR_OK; at++) code = look_at(heap, &operations[at]);
     return code;
 }
 
@@ -432,9 +452,10 @@ static lxr_code operate(lxr_heap *handle, lxr_operation *it) {
 }
 
 lxr_code lxr_apply(lxr_heap *handle, lxr_operation *operations, size_t count, size_t *done) {
+    struct heap *heap = heap_of(handle);
     *done = 0;
-    if (!heap_of(handle)) return LXR_E_NO_HEAP;
-    lxr_code code = look_at_all(operations, count);
+    if (!heap) return LXR_E_NO_HEAP;
+    lxr_code code = look_at_all(heap, operations, count);
     while (code == LXR_OK && *done < count) {
         code = operate(handle, &operations[*done]);
         if (code == LXR_OK) ++*done;

@@ -11,9 +11,9 @@
 //     std::cout << list.load(0).get(0);        // 8
 //
 // A `heap` owns all its objects; it is moved and never copied. A `root` holds an object, or is nil: it takes one of the heap's registers
-// for as long as it lives, and lets go of it then. Objects that no root leads to are reclaimed. There are fourteen registers for roots,
-// since register 0 is kept for the world and register 15 is always nil; so what has many objects keeps them in an object, as a frame, and
-// not in roots.
+// for as long as it lives, and lets go of it then. Objects that no root leads to are reclaimed. Of a heap's registers, 16 to 256 as its
+// settings say, all but two are for roots, since register 0 is kept for the world and register 15 is always nil; so what has more objects
+// keeps them in an object, as a frame, and not in roots.
 //
 // What can't be done is thrown, as an `lxr::error`, which is a `std::system_error` with a code of `lxr::category()`; then nothing has
 // changed, but by a `batch` that was done in part. Where a full heap isn't a surprise, `try_make`, `try_make_with` and `try_make_large`
@@ -24,6 +24,7 @@
 #include "lxr.h"
 
 #include <array>
+#include <bitset>
 #include <cassert>
 #include <cstddef>
 #include <cstdint>
@@ -171,36 +172,51 @@ inline void done(lxr_code code) {
     if (code != LXR_OK) throw error(static_cast<errc>(code));
 }
 
-/// The register that holds the world, and the one that is nil for good.
+/// The register that holds the world, and the one that is nil for good, however many there are.
 inline constexpr std::uint32_t world = 0, nil = LXR_REGISTERS - 1;
 
-/// Which of sixteen registers are taken.
+/// Which of a heap's registers are taken.
 class taken_registers {
 public:
-    bool are_none() const noexcept { return taken_ == kept; }
+    explicit taken_registers(std::uint32_t registers = LXR_REGISTERS) noexcept : registers_(registers) {}
 
+    bool are_none() const noexcept { return count_ == 0; }
+
+    /// The first that is free: so those in use stand together.
     std::uint32_t take() {
-        for (std::uint32_t at = 0; at < LXR_REGISTERS; ++at) {
-            if (taken_ & 1u << at) continue;
-            taken_ |= 1u << at;
-            return at;
-        }
-        throw error(errc::no_register);
+        while (first_free_ < registers_ && is_taken(first_free_)) ++first_free_;
+        if (first_free_ >= registers_) throw error(errc::no_register);
+        taken_[first_free_] = true;
+        ++count_;
+        return first_free_++;
     }
 
-    void give_back(std::uint32_t at) noexcept { taken_ &= ~(1u << at) | kept; }
+    void give_back(std::uint32_t at) noexcept {
+        if (!taken_[at]) return;  // it is kept
+        taken_[at] = false;
+        --count_;
+        if (at < first_free_) first_free_ = at;
+    }
 
 private:
-    static constexpr std::uint32_t kept = 1u << world | 1u << nil;
-    std::uint32_t taken_ = kept;
+    bool is_taken(std::uint32_t at) const noexcept { return at == world || at == nil || taken_[at]; }
+
+    std::uint32_t registers_, count_ = 0;
+    std::uint32_t first_free_ = 0;  // none before it is free
+    std::bitset<LXR_MOST_REGISTERS> taken_;
 };
+
+/// How many registers a heap of these settings has.
+inline std::uint32_t registers_of(const lxr_settings& settings) noexcept {
+    return settings.size == sizeof settings && settings.registers != 0 ? settings.registers : LXR_REGISTERS;
+}
 
 /// A heap for one thread: its handle, which stays where it is, and its registers.
 struct state {
     lxr_heap handle{};
     taken_registers taken;
 
-    explicit state(const lxr_settings& settings) { done(lxr_open(&handle, &settings)); }
+    explicit state(const lxr_settings& settings) : taken(registers_of(settings)) { done(lxr_open(&handle, &settings)); }
     state(const state&) = delete;
     state& operator=(const state&) = delete;
     ~state() {
@@ -331,7 +347,7 @@ public:
 
     /// What so many references from `first` on refer to: `auto [left, right] = node.load_many<2>(0);`
     template <std::size_t Count> [[nodiscard]] std::array<Root, Count> load_many(std::uint32_t first) const {
-        static_assert(Count < LXR_REGISTERS, "there are fewer registers");
+        static_assert(Count < LXR_MOST_REGISTERS, "there are fewer registers");
         std::array<Root, Count> found;
         register_list registers;
         for (Root& one : found) {
@@ -566,6 +582,10 @@ public:
 
     /// A pause that leaves exactly what can be reached.
     void collect() { detail::done(lxr_collect(handle())); }
+
+    /// The first `count` registers stay in use: roots that have one behind them are nil from now on. Roots take the first register that is
+    /// free, and give it back as they end, so a heap whose roots come and go needs no such call.
+    void registers_in_use(std::uint32_t count) { detail::done(lxr_registers_in_use(handle(), count)); }
 
     /// A plain pause after so many bytes of new objects; or `LXR_PACE_NEVER`, `LXR_PACE_ROOM`.
     void set_pace(std::uint64_t bytes) { detail::done(lxr_set_pace(handle(), bytes)); }

@@ -11,8 +11,8 @@
 //
 // A `shared_heap` owns all objects, and each thread of the host that calls it has a `mutator` of its own, which may be handed to another
 // thread, as a unique_ptr may. A `local` holds an object for its mutator, or is nil: it takes one of the mutator's registers for as long as
-// it lives, and lets go of it then; there are fourteen. What one thread is to have of another goes through the heap: through the world,
-// which all mutators have, and what it leads to.
+// it lives, and lets go of it then. Of these, 16 to 256 as the heap's settings say, two are kept. What one thread is to have of another goes
+// through the heap: through the world, which all mutators have, and what it leads to.
 //
 // What can't be done is thrown, as an `lxr::error`; then nothing has changed, but what several operations at once have done by then. Where a
 // full heap isn't a surprise, `try_make` and `try_make_with` answer a nil local instead. A local doesn't outlive its mutator, nor a mutator
@@ -33,13 +33,18 @@ namespace lxr {
 
 namespace detail {
 
+/// How many registers each mutator has in a heap of these settings.
+inline std::uint32_t registers_of(const lxr_shared_heap_settings& settings) noexcept {
+    return settings.size == sizeof settings && settings.registers != 0 ? settings.registers : LXR_REGISTERS;
+}
+
 /// A mutator, which stays where it is, and which of its registers are taken.
 struct share {
     lxr_mutator* handle = nullptr;
     taken_registers taken;
     bool rests = false;
 
-    explicit share(lxr_shared_heap* heap) { done(lxr_mutator_enter(heap, &handle)); }
+    share(lxr_shared_heap* heap, std::uint32_t registers) : taken(registers) { done(lxr_mutator_enter(heap, &handle)); }
     share(const share&) = delete;
     share& operator=(const share&) = delete;
     ~share() {
@@ -123,9 +128,9 @@ public:
     shared_heap(std::uint32_t blocks, std::uint32_t mutators)
         : shared_heap(lxr_shared_heap_settings LXR_SHARED_HEAP_SETTINGS(blocks, mutators)) {}
 
-    /// Opens a heap of these settings, among them the pace and what a trace evacuates, and starts its helpers. Its `paused` is told of each
-    /// pause by the thread that made it, and throws nothing.
-    explicit shared_heap(const lxr_shared_heap_settings& settings) {
+    /// Opens a heap of these settings, among them the pace, what a trace evacuates and how many registers each mutator has, and starts its
+    /// helpers. Its `paused` is told of each pause by the thread that made it, and throws nothing.
+    explicit shared_heap(const lxr_shared_heap_settings& settings) : registers_(detail::registers_of(settings)) {
         lxr_shared_heap* opened = nullptr;
         detail::done(lxr_shared_heap_open(&opened, &settings));
         heap_.reset(opened);
@@ -158,6 +163,7 @@ private:
     }
 
     std::unique_ptr<lxr_shared_heap, detail::closes> heap_;
+    std::uint32_t registers_;
 };
 
 /// A thread's registers in a heap, and its right to call: from here on it takes part in pauses, which wait for it. It is moved and not
@@ -165,7 +171,7 @@ private:
 class mutator {
 public:
     /// Enters a heap, with registers that are nil. `errc::number` says that as many mutators are in it as may be.
-    explicit mutator(const shared_heap& heap) : share_(std::make_unique<detail::share>(heap.handle())) {}
+    explicit mutator(const shared_heap& heap) : share_(std::make_unique<detail::share>(heap.handle(), heap.registers_)) {}
 
     /// The world: an object with 64 references that all mutators have, and that is kept for good. It takes no register from the locals.
     [[nodiscard]] local world() { return local(share(), detail::world); }
@@ -198,6 +204,10 @@ public:
         const lxr_code code = lxr_mutator_new(share().handle, made.at_, refs, words);
         return made_or_nil(std::move(made), code);
     }
+
+    /// The first `count` registers stay in use: locals that have one behind them are nil from now on. Locals take the first register that is
+    /// free, and give it back as they end, so a mutator whose locals come and go needs no such call.
+    void registers_in_use(std::uint32_t count) { detail::done(lxr_mutator_registers_in_use(share().handle, count)); }
 
     /// A pause, which all mutators take part in that don't rest.
     void pause() { detail::done(lxr_mutator_pause(share().handle)); }

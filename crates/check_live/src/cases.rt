@@ -62,6 +62,7 @@ impl<'a> Case<'a> {
             helpers: self.helpers(),
             log: self.setting("log", 1024),
             remember: self.setting("remember", 4096),
+            registers: self.setting("registers", 16).min(65_535) as u16,
             evacuate: self.setting("evacuate", blocks / 8),
             every: self.setting("every", 1024),
             trace: self.setting("trace", 8),

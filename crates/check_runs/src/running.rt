@@ -4,6 +4,7 @@ use crate::looking::{Looking, Meet, Meeting};
 use lxr_image::Space;
 use lxr_layout::Limits;
 use lxr_run::{Seen, lxr};
+use lxr_text_script::SCRIPT_REGISTERS;
 use lxr_text_stream::{Bytes, Kept};
 use std::alloc::Global;
 use std::io;
@@ -18,6 +19,7 @@ const LIMITS: Limits = Limits {
     threads: 1,
     log: 1024,
     remember: 4096,
+    registers: SCRIPT_REGISTERS,
     evacuate: 0,
 };
 

@@ -2,7 +2,8 @@
 //!
 //! Each call takes the program's handle, a struct of two words of its own that begins as zeros, and answers a code. No call has a condition: a
 //! handle without a heap, a register, a size or an index that there isn't is answered. What is done is that of `LargeHeap` (`lxr_heap`),
-//! with the pauses that this asks for; objects are held by sixteen registers and known by nothing else, since pauses move them.
+//! with the pauses that this asks for; objects are held by 16 to 256 registers and known by nothing else, since
+//! pauses move them.
 #![tactic(auto)]
 
 mod passes;
@@ -15,11 +16,13 @@ ghost use Rattle.lxr_c_base.specs.Requests as asking;
 ghost use Rattle.lxr_c_base.specs.declared.codes.Code.{Code as CodeOf};
 ghost use Rattle.lxr_c_heap.specs.Calling.{AsksPause, Calls, Closes, Opens, SetsPace};
 ghost use Rattle.lxr_c_heap.specs.Hosting.{Makes, Replies, Stores};
+ghost use Rattle.lxr_c_heap.specs.Keeping.{registers_kept};
 ghost use Rattle.lxr_c_heap.specs.Looking as looking;
 ghost use Rattle.lxr_c_heap.specs.Looking.{Counts, Looks, SeesNil, SeesShape, SeesWords, Tells, Writes, bulk_code as is_bulk_code, counted_by, of_object as is_of_object};
 ghost use Rattle.lxr_c_many.specs.declared.applying.Applied.{Applied as AppliedOf};
 ghost use Rattle.lxr_c_many.specs.Applying.{AppliesAll, applied_code, applied_count};
 ghost use Rattle.lxr_c_many.specs.Calling.{Does, LoadsReferences, PutsWords, SeesFields, StoresReferences};
+ghost use Rattle.lxr_c_many.specs.Clearing.{LetsGo};
 ghost use Rattle.lxr_c_many.specs.Fields.{base_of_loads, base_of_stores};
 ghost use Rattle.lxr_c_many.specs.Making.{MakesWith, wanted_of};
 
@@ -127,10 +130,11 @@ pub extern "C" fn lxr_version() -> u32
     VERSION
 }
 
-/// Opens a heap of these settings: so many blocks of 32 KB, and so many for bodies, 1 to 65,536 each. Register 0 holds the world.
+/// Opens a heap of these settings: so many blocks of 32 KB, and so many for bodies, 1 to 65,536 each, and 16 to 256 registers. Register 0
+/// holds the world.
 ///
-/// The first word of the settings is their size, and there is one size today. A later version with more fields takes a pointer to that word:
-/// it reads the word first, then as many fields as a known size has, and gives the others the values that they have had before.
+/// The first word of the settings is their size. Those of version 0.2 end before the registers: as many fields are read as a known size has,
+/// and the others have the values that they had before.
 #[unsafe(no_mangle)]
 pub extern "C" fn lxr_open(alloc: Global, heap: &mut Handle, settings: &Settings) -> u32
     ensures { (answer : CodeOf) × Opens heap.old.block.value heap.new.block.value settings.now answer × (result ≡ number_of answer) }
@@ -149,33 +153,37 @@ pub extern "C" fn lxr_close(alloc: Global, heap: &mut Handle) -> u32
 /// Register `dest` gets a new object with so many references, which are nil, and data words, which are 0.
 #[unsafe(no_mangle)]
 pub extern "C" fn lxr_new(heap: &mut Handle, dest: u32, refs: u32, words: u32) -> u32
-    ensures { Calls Makes heap.old.block.value heap.new.block.value (asking.new dest refs words) result }
+    ensures { Calls Makes heap.old.block.value heap.new.block.value (asking.new (registers_kept heap.old.block.value) dest refs words) result }
 {
-    answered(heap.make(requests::new(dest, refs, words)))
+    let request = requests::new(heap.registers(), dest, refs, words);
+    answered(heap.make(request))
 }
 
 /// Register `dest` gets reference `index` of the object that `base` holds.
 #[unsafe(no_mangle)]
 pub extern "C" fn lxr_load(heap: &mut Handle, dest: u32, base: u32, index: u32) -> u32
-    ensures { Calls Replies heap.old.block.value heap.new.block.value (asking.load dest base index) result }
+    ensures { Calls Replies heap.old.block.value heap.new.block.value (asking.load (registers_kept heap.old.block.value) dest base index) result }
 {
-    answered(heap.reply(requests::load(dest, base, index)))
+    let request = requests::load(heap.registers(), dest, base, index);
+    answered(heap.reply(request))
 }
 
 /// Reference `index` of the object that `base` holds becomes what `source` holds.
 #[unsafe(no_mangle)]
 pub extern "C" fn lxr_store(heap: &mut Handle, base: u32, index: u32, source: u32) -> u32
-    ensures { Calls Stores heap.old.block.value heap.new.block.value (asking.store base index source) result }
+    ensures { Calls Stores heap.old.block.value heap.new.block.value (asking.store (registers_kept heap.old.block.value) base index source) result }
 {
-    answered(heap.store(requests::set_reference(base, index, source)))
+    let request = requests::set_reference(heap.registers(), base, index, source);
+    answered(heap.store(request))
 }
 
 /// Writes data word `index` of the object that `base` holds to `word`.
 #[unsafe(no_mangle)]
 pub extern "C" fn lxr_get(heap: &mut Handle, base: u32, index: u32, word: &mut u64) -> u32
-    ensures { Tells looking.word_in heap.old.block.value heap.new.block.value (asking.get base index) result word.old word.new }
+    ensures { Tells looking.word_in heap.old.block.value heap.new.block.value (asking.get (registers_kept heap.old.block.value) base index) result word.old word.new }
 {
-    let answer = heap.see(requests::get(base, index));
+    let request = requests::get(heap.registers(), base, index);
+    let answer = heap.see(request);
     tell(word, word_in(answer));
     answered(answer)
 }
@@ -183,17 +191,19 @@ pub extern "C" fn lxr_get(heap: &mut Handle, base: u32, index: u32, word: &mut u
 /// Data word `index` of the object that `base` holds becomes `word`.
 #[unsafe(no_mangle)]
 pub extern "C" fn lxr_put(heap: &mut Handle, base: u32, index: u32, word: u64) -> u32
-    ensures { Calls Replies heap.old.block.value heap.new.block.value (asking.put base index word) result }
+    ensures { Calls Replies heap.old.block.value heap.new.block.value (asking.put (registers_kept heap.old.block.value) base index word) result }
 {
-    answered(heap.reply(requests::put(base, index, word)))
+    let request = requests::put(heap.registers(), base, index, word);
+    answered(heap.reply(request))
 }
 
 /// Writes to `same` 1 where both registers are nil or hold one object, and else 0.
 #[unsafe(no_mangle)]
 pub extern "C" fn lxr_same(heap: &mut Handle, left: u32, right: u32, same: &mut u32) -> u32
-    ensures { Tells looking.same_flag heap.old.block.value heap.new.block.value (asking.same left right) result same.old same.new }
+    ensures { Tells looking.same_flag heap.old.block.value heap.new.block.value (asking.same (registers_kept heap.old.block.value) left right) result same.old same.new }
 {
-    let answer = heap.see(requests::same(left, right));
+    let request = requests::same(heap.registers(), left, right);
+    let answer = heap.see(request);
     tell_flag(same, same_in(answer));
     answered(answer)
 }
@@ -201,33 +211,48 @@ pub extern "C" fn lxr_same(heap: &mut Handle, left: u32, right: u32, same: &mut 
 /// Register `dest` gets what `source` holds.
 #[unsafe(no_mangle)]
 pub extern "C" fn lxr_move(heap: &mut Handle, dest: u32, source: u32) -> u32
-    ensures { Calls Replies heap.old.block.value heap.new.block.value (asking.copy dest source) result }
+    ensures { Calls Replies heap.old.block.value heap.new.block.value (asking.copy (registers_kept heap.old.block.value) dest source) result }
 {
-    answered(heap.reply(requests::copy(dest, source)))
+    let request = requests::copy(heap.registers(), dest, source);
+    answered(heap.reply(request))
 }
 
 /// Register `dest` becomes nil.
 #[unsafe(no_mangle)]
 pub extern "C" fn lxr_nil(heap: &mut Handle, dest: u32) -> u32
-    ensures { Calls Replies heap.old.block.value heap.new.block.value (asking.nil dest) result }
+    ensures { Calls Replies heap.old.block.value heap.new.block.value (asking.nil (registers_kept heap.old.block.value) dest) result }
 {
-    answered(heap.reply(requests::nil(dest)))
+    let request = requests::nil(heap.registers(), dest);
+    answered(heap.reply(request))
+}
+
+/// Keeps the first `count` registers in use: all others become nil.
+#[unsafe(no_mangle)]
+pub extern "C" fn lxr_registers_in_use(heap: &mut Handle, count: u32) -> u32
+    ensures { (answer : Result (Unit {0}) CodeOf) × Does LetsGo heap.old.block.value heap.new.block.value (asking.in_use_of (registers_kept heap.old.block.value) count) answer × (result ≡ number_of (code_in answer)) }
+{
+    match lxr_c_many::registers_in_use(heap, count) {
+        Err(code) => code.number(),
+        Ok(()) => Code::Done.number(),
+    }
 }
 
 /// Register `dest` gets a new large object, whose body has so many blocks of 4,096 words, which are 0.
 #[unsafe(no_mangle)]
 pub extern "C" fn lxr_large_new(heap: &mut Handle, dest: u32, blocks: u32) -> u32
-    ensures { Calls Makes heap.old.block.value heap.new.block.value (asking.big dest blocks) result }
+    ensures { Calls Makes heap.old.block.value heap.new.block.value (asking.big (registers_kept heap.old.block.value) dest blocks) result }
 {
-    answered(heap.make(requests::big(dest, blocks)))
+    let request = requests::big(heap.registers(), dest, blocks);
+    answered(heap.make(request))
 }
 
 /// Writes word `index` of the body of the object that `base` holds to `word`.
 #[unsafe(no_mangle)]
 pub extern "C" fn lxr_large_get(heap: &mut Handle, base: u32, index: u32, word: &mut u64) -> u32
-    ensures { Tells looking.word_in heap.old.block.value heap.new.block.value (asking.big_get base index) result word.old word.new }
+    ensures { Tells looking.word_in heap.old.block.value heap.new.block.value (asking.big_get (registers_kept heap.old.block.value) base index) result word.old word.new }
 {
-    let answer = heap.see(requests::big_get(base, index));
+    let request = requests::big_get(heap.registers(), base, index);
+    let answer = heap.see(request);
     tell(word, word_in(answer));
     answered(answer)
 }
@@ -235,9 +260,10 @@ pub extern "C" fn lxr_large_get(heap: &mut Handle, base: u32, index: u32, word: 
 /// Word `index` of the body of the object that `base` holds becomes `word`.
 #[unsafe(no_mangle)]
 pub extern "C" fn lxr_large_put(heap: &mut Handle, base: u32, index: u32, word: u64) -> u32
-    ensures { Calls Replies heap.old.block.value heap.new.block.value (asking.big_put base index word) result }
+    ensures { Calls Replies heap.old.block.value heap.new.block.value (asking.big_put (registers_kept heap.old.block.value) base index word) result }
 {
-    answered(heap.reply(requests::big_put(base, index, word)))
+    let request = requests::big_put(heap.registers(), base, index, word);
+    answered(heap.reply(request))
 }
 
 /// Makes a pause by reference counts alone.
@@ -268,7 +294,7 @@ pub extern "C" fn lxr_set_pace(heap: &mut Handle, bytes: u64) -> u32
 /// Writes to `is_nil` 1 where register `source` is nil, and else 0.
 #[unsafe(no_mangle)]
 pub extern "C" fn lxr_is_nil(heap: &mut Handle, source: u32, is_nil: &mut u32) -> u32
-    ensures { (answer : Result Bool CodeOf) × Looks SeesNil heap.old.block.value heap.new.block.value (asking.register_of source) answer
+    ensures { (answer : Result Bool CodeOf) × Looks SeesNil heap.old.block.value heap.new.block.value (asking.register_of (registers_kept heap.old.block.value) source) answer
         × (result ≡ number_of (code_in answer)) × (is_nil.new ≡ written_over is_nil.old (told is_flag answer)) }
 {
     match heap.is_nil(source) {
@@ -289,7 +315,7 @@ pub extern "C" fn lxr_shape(
     words: &mut u32,
     blocks: &mut u32,
 ) -> u32
-    ensures { (answer : Result (Option (ShapeOf × ℕ)) CodeOf) × Looks SeesShape heap.old.block.value heap.new.block.value (asking.register_of base) answer
+    ensures { (answer : Result (Option (ShapeOf × ℕ)) CodeOf) × Looks SeesShape heap.old.block.value heap.new.block.value (asking.register_of (registers_kept heap.old.block.value) base) answer
         × (result ≡ number_of (code_in (is_of_object answer)))
         × (refs.new ≡ written_over refs.old (told (λ s. s.0.refs) (is_of_object answer)))
         × (words.new ≡ written_over words.old (told (λ s. s.0.values) (is_of_object answer)))
@@ -309,7 +335,7 @@ pub extern "C" fn lxr_shape(
 /// Reads `count` words of the body of the object that `base` holds, from word `index` on: all of them or none.
 #[unsafe(no_mangle)]
 pub extern "C" fn lxr_large_read(heap: &mut Handle, base: u32, index: u32, into: &mut [u64]) -> u32
-    ensures { (answer : Result BodyReplyOf CodeOf) × Looks (SeesWords index into.old into.new) heap.old.block.value heap.new.block.value (asking.register_of base) answer
+    ensures { (answer : Result BodyReplyOf CodeOf) × Looks (SeesWords index into.old into.new) heap.old.block.value heap.new.block.value (asking.register_of (registers_kept heap.old.block.value) base) answer
         × OnErr answer (into.new ≡ into.old) × (result ≡ number_of (is_bulk_code answer)) }
 {
     bulk_code(heap.read(base, index, into)).number()
@@ -318,7 +344,7 @@ pub extern "C" fn lxr_large_read(heap: &mut Handle, base: u32, index: u32, into:
 /// Writes `count` words over those of the body of the object that `base` holds, from word `index` on: all of them or none.
 #[unsafe(no_mangle)]
 pub extern "C" fn lxr_large_write(heap: &mut Handle, base: u32, index: u32, from: &[u64]) -> u32
-    ensures { (answer : Result BodyReplyOf CodeOf) × Writes heap.old.block.value heap.new.block.value (asking.register_of base) index from.now answer
+    ensures { (answer : Result BodyReplyOf CodeOf) × Writes heap.old.block.value heap.new.block.value (asking.register_of (registers_kept heap.old.block.value) base) index from.now answer
         × (result ≡ number_of (is_bulk_code answer)) }
 {
     bulk_code(heap.write(base, index, from)).number()
@@ -327,7 +353,7 @@ pub extern "C" fn lxr_large_write(heap: &mut Handle, base: u32, index: u32, from
 /// Register `dest` gets a new object with a reference for each of the sources, which is what that register holds, and these data words.
 #[unsafe(no_mangle)]
 pub extern "C" fn lxr_new_with(heap: &mut Handle, dest: u32, sources: &[u32], words: &[u64]) -> u32
-    ensures { (answer : Answer) × Does (MakesWith sources.now words.now) heap.old.block.value heap.new.block.value (wanted_of dest sources.now words.now) answer × (result ≡ is_answered answer) }
+    ensures { (answer : Answer) × Does (MakesWith sources.now words.now) heap.old.block.value heap.new.block.value (wanted_of (registers_kept heap.old.block.value) dest sources.now words.now) answer × (result ≡ is_answered answer) }
 {
     answered(lxr_c_many::new_with(heap, dest, sources, words))
 }
@@ -335,7 +361,7 @@ pub extern "C" fn lxr_new_with(heap: &mut Handle, dest: u32, sources: &[u32], wo
 /// Reads data words of the object that `base` holds, from `first` on: all of them or none.
 #[unsafe(no_mangle)]
 pub extern "C" fn lxr_get_many(heap: &mut Handle, base: u32, first: u32, words: &mut [u64]) -> u32
-    ensures { (answer : Result BodyReplyOf CodeOf) × Looks (SeesFields first words.old words.new) heap.old.block.value heap.new.block.value (asking.register_of base) answer
+    ensures { (answer : Result BodyReplyOf CodeOf) × Looks (SeesFields first words.old words.new) heap.old.block.value heap.new.block.value (asking.register_of (registers_kept heap.old.block.value) base) answer
         × OnErr answer (words.new ≡ words.old) × (result ≡ number_of (is_bulk_code answer)) }
 {
     bulk_code(lxr_c_many::get_many(heap, base, first, words)).number()
@@ -344,7 +370,7 @@ pub extern "C" fn lxr_get_many(heap: &mut Handle, base: u32, first: u32, words: 
 /// Writes over data words of the object that `base` holds, from `first` on: all of them or none.
 #[unsafe(no_mangle)]
 pub extern "C" fn lxr_put_many(heap: &mut Handle, base: u32, first: u32, words: &[u64]) -> u32
-    ensures { (answer : Result BodyReplyOf CodeOf) × Does (PutsWords first words.now) heap.old.block.value heap.new.block.value (asking.register_of base) answer
+    ensures { (answer : Result BodyReplyOf CodeOf) × Does (PutsWords first words.now) heap.old.block.value heap.new.block.value (asking.register_of (registers_kept heap.old.block.value) base) answer
         × (result ≡ number_of (is_bulk_code answer)) }
 {
     bulk_code(lxr_c_many::put_many(heap, base, first, words)).number()
@@ -353,7 +379,7 @@ pub extern "C" fn lxr_put_many(heap: &mut Handle, base: u32, first: u32, words: 
 /// Registers get references of the object that `base` holds, from `first` on: all of them or none.
 #[unsafe(no_mangle)]
 pub extern "C" fn lxr_load_many(heap: &mut Handle, base: u32, first: u32, registers: &[u32]) -> u32
-    ensures { (answer : Result BodyReplyOf CodeOf) × Does (LoadsReferences first registers.now) heap.old.block.value heap.new.block.value (base_of_loads base registers.now) answer
+    ensures { (answer : Result BodyReplyOf CodeOf) × Does (LoadsReferences first registers.now) heap.old.block.value heap.new.block.value (base_of_loads (registers_kept heap.old.block.value) base registers.now) answer
         × (result ≡ number_of (is_bulk_code answer)) }
 {
     bulk_code(lxr_c_many::load_many(heap, base, first, registers)).number()
@@ -362,7 +388,7 @@ pub extern "C" fn lxr_load_many(heap: &mut Handle, base: u32, first: u32, regist
 /// References of the object that `base` holds, from `first` on, become what registers hold: all of them or none.
 #[unsafe(no_mangle)]
 pub extern "C" fn lxr_store_many(heap: &mut Handle, base: u32, first: u32, registers: &[u32]) -> u32
-    ensures { (answer : Result BodyReplyOf CodeOf) × Does (StoresReferences first registers.now) heap.old.block.value heap.new.block.value (base_of_stores base registers.now) answer
+    ensures { (answer : Result BodyReplyOf CodeOf) × Does (StoresReferences first registers.now) heap.old.block.value heap.new.block.value (base_of_stores (registers_kept heap.old.block.value) base registers.now) answer
         × (result ≡ number_of (is_bulk_code answer)) }
 {
     bulk_code(lxr_c_many::store_many(heap, base, first, registers)).number()

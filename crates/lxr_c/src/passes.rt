@@ -3,7 +3,7 @@ ghost use Rattle.std.specs.Prelude.{◌≡◌, ℕ, Ok, Err, option_map, Result,
 ghost use Rattle.lxr_graph.specs.declared.Op.TheVariants as op;
 ghost use Rattle.lxr_c_base.specs.Codes.{code_in, flag, number_of, told, written_over};
 ghost use Rattle.lxr_c_shared.specs.Holding.{At};
-ghost use Rattle.lxr_c_shared.specs.Passing.{Answers, ClosesStation, ComesHome, HelpsBy, LetsOut, OrdersBy, SeesWanted, Sent, TellsBy, flag_of, only, sent_code as is_sent_code};
+ghost use Rattle.lxr_c_shared.specs.Passing.{Answers, ClosesStation, ComesHome, HelpsBy, LetsOut, OrdersBy, SeesWanted, Sent, TellsBy, flag_of, only, registers_in, sent_code as is_sent_code};
 ghost use Rattle.lxr_c_base.specs.Requests as asking;
 ghost use Rattle.lxr_c_base.specs.Requests.{small_of as is_small_of};
 ghost use Rattle.lxr_c_shared.specs.Sharing.{ClosesHeap, CountsPause, OpensHeap, PausesHeap, ResumesHeap};
@@ -165,9 +165,10 @@ pub extern "C" fn lxr_station_new(
     refs: u32,
     words: u32,
 ) -> u32
-    ensures { OrdersBy (is_small_of (asking.new dest refs words)) station.old.held.value station.new.held.value result }
+    ensures { OrdersBy (is_small_of (asking.new (registers_in station.old.held.value) dest refs words)) station.old.held.value station.new.held.value result }
 {
-    let request = small_of(requests::new(dest, refs, words));
+    let registers = station.registers(alloc);
+    let request = small_of(requests::new(registers, dest, refs, words));
     station.operate(alloc, request).code.number()
 }
 
@@ -180,9 +181,10 @@ pub extern "C" fn lxr_station_load(
     base: u32,
     index: u32,
 ) -> u32
-    ensures { OrdersBy (is_small_of (asking.load dest base index)) station.old.held.value station.new.held.value result }
+    ensures { OrdersBy (is_small_of (asking.load (registers_in station.old.held.value) dest base index)) station.old.held.value station.new.held.value result }
 {
-    let request = small_of(requests::load(dest, base, index));
+    let registers = station.registers(alloc);
+    let request = small_of(requests::load(registers, dest, base, index));
     station.operate(alloc, request).code.number()
 }
 
@@ -195,9 +197,10 @@ pub extern "C" fn lxr_station_store(
     index: u32,
     source: u32,
 ) -> u32
-    ensures { OrdersBy (is_small_of (asking.store base index source)) station.old.held.value station.new.held.value result }
+    ensures { OrdersBy (is_small_of (asking.store (registers_in station.old.held.value) base index source)) station.old.held.value station.new.held.value result }
 {
-    let request = small_of(requests::set_reference(base, index, source));
+    let registers = station.registers(alloc);
+    let request = small_of(requests::set_reference(registers, base, index, source));
     station.operate(alloc, request).code.number()
 }
 
@@ -211,9 +214,10 @@ pub extern "C" fn lxr_station_swap(
     index: u32,
     source: u32,
 ) -> u32
-    ensures { OrdersBy (asking.swap dest base index source) station.old.held.value station.new.held.value result }
+    ensures { OrdersBy (asking.swap (registers_in station.old.held.value) dest base index source) station.old.held.value station.new.held.value result }
 {
-    let request = requests::swap(dest, base, index, source);
+    let registers = station.registers(alloc);
+    let request = requests::swap(registers, dest, base, index, source);
     station.operate(alloc, request).code.number()
 }
 
@@ -226,9 +230,10 @@ pub extern "C" fn lxr_station_get(
     index: u32,
     word: &mut u64,
 ) -> u32
-    ensures { TellsBy (λ told. told.word) (is_small_of (asking.get base index)) station.old.held.value station.new.held.value result word.old word.new }
+    ensures { TellsBy (λ told. told.word) (is_small_of (asking.get (registers_in station.old.held.value) base index)) station.old.held.value station.new.held.value result word.old word.new }
 {
-    let request = small_of(requests::get(base, index));
+    let registers = station.registers(alloc);
+    let request = small_of(requests::get(registers, base, index));
     tell(station.operate(alloc, request), word)
 }
 
@@ -241,9 +246,10 @@ pub extern "C" fn lxr_station_put(
     index: u32,
     word: u64,
 ) -> u32
-    ensures { OrdersBy (is_small_of (asking.put base index word)) station.old.held.value station.new.held.value result }
+    ensures { OrdersBy (is_small_of (asking.put (registers_in station.old.held.value) base index word)) station.old.held.value station.new.held.value result }
 {
-    let request = small_of(requests::put(base, index, word));
+    let registers = station.registers(alloc);
+    let request = small_of(requests::put(registers, base, index, word));
     station.operate(alloc, request).code.number()
 }
 
@@ -257,9 +263,10 @@ pub extern "C" fn lxr_station_add(
     word: u64,
     old: &mut u64,
 ) -> u32
-    ensures { TellsBy (λ told. told.word) (asking.add base index word) station.old.held.value station.new.held.value result old.old old.new }
+    ensures { TellsBy (λ told. told.word) (asking.add (registers_in station.old.held.value) base index word) station.old.held.value station.new.held.value result old.old old.new }
 {
-    let request = requests::add(base, index, word);
+    let registers = station.registers(alloc);
+    let request = requests::add(registers, base, index, word);
     tell(station.operate(alloc, request), old)
 }
 
@@ -272,9 +279,10 @@ pub extern "C" fn lxr_station_same(
     right: u32,
     same: &mut u32,
 ) -> u32
-    ensures { TellsBy (λ told. option_map flag_of told.word) (is_small_of (asking.same left right)) station.old.held.value station.new.held.value result same.old same.new }
+    ensures { TellsBy (λ told. option_map flag_of told.word) (is_small_of (asking.same (registers_in station.old.held.value) left right)) station.old.held.value station.new.held.value result same.old same.new }
 {
-    let request = small_of(requests::same(left, right));
+    let registers = station.registers(alloc);
+    let request = small_of(requests::same(registers, left, right));
     tell_flag(station.operate(alloc, request), same)
 }
 
@@ -286,18 +294,20 @@ pub extern "C" fn lxr_station_move(
     dest: u32,
     source: u32,
 ) -> u32
-    ensures { OrdersBy (is_small_of (asking.copy dest source)) station.old.held.value station.new.held.value result }
+    ensures { OrdersBy (is_small_of (asking.copy (registers_in station.old.held.value) dest source)) station.old.held.value station.new.held.value result }
 {
-    let request = small_of(requests::copy(dest, source));
+    let registers = station.registers(alloc);
+    let request = small_of(requests::copy(registers, dest, source));
     station.operate(alloc, request).code.number()
 }
 
 /// Register `dest` becomes nil.
 #[unsafe(no_mangle)]
 pub extern "C" fn lxr_station_nil(alloc: Global, station: &mut Holder, dest: u32) -> u32
-    ensures { OrdersBy (is_small_of (asking.nil dest)) station.old.held.value station.new.held.value result }
+    ensures { OrdersBy (is_small_of (asking.nil (registers_in station.old.held.value) dest)) station.old.held.value station.new.held.value result }
 {
-    let request = small_of(requests::nil(dest));
+    let registers = station.registers(alloc);
+    let request = small_of(requests::nil(registers, dest));
     station.operate(alloc, request).code.number()
 }
 

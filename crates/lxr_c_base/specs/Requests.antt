@@ -1,4 +1,4 @@
--- The operation that a call asks for, by the numbers that a program in C gives.
+-- The operation that a call asks for, by the numbers that a program in C gives. Each heap has so many registers that may be named, the first ones.
 use Rattle.std.specs.Prelude.{ℕ, ◌&&◌, nat_le, nat_lt, if◌then◌else◌, Result, Ok, Err}
 use Rattle.lxr_graph.specs.declared.Op.{Op}
 use Rattle.lxr_graph.specs.declared.Op.TheVariants as op
@@ -15,9 +15,13 @@ Request = Result LargeOp Code
 
 -- ---- numbers
 
--- the register of a number: there are sixteen
-abbrev pub register_of : ℕ → Result ℕ Code
-register_of r = if nat_lt r 16 then Ok r else Err code.Register
+-- the register of a number, where there are so many
+abbrev pub register_of : ℕ → ℕ → Result ℕ Code
+register_of registers r = if nat_lt r registers then Ok r else Err code.Register
+
+-- How many registers are to stay in use, where there are so many. The first has the world at the opening, so at least that one is.
+abbrev pub in_use_of : ℕ → ℕ → Result ℕ Code
+in_use_of registers count = if nat_le 1 count && nat_le count registers then Ok count else Err code.Register
 
 -- so many references, or data words: an object has at most 1,023 of each
 abbrev pub size_of : ℕ → Result ℕ Code
@@ -33,56 +37,56 @@ abbrev pub index_of : ℕ → ℕ
 index_of i = if nat_lt i 65536 then i else 65535
 
 -- what follows of a number that fits, or the code of what is wrong with it
-abbrev pub with_number : Result ℕ Code → (ℕ → Request) → Request
+abbrev pub with_number : {T : Type 0} → Result ℕ Code → (ℕ → Result T Code) → Result T Code
 with_number (Ok n) next = next n
 with_number (Err e) next = Err e
 
 -- ---- calls
 
 -- a new object in register `dest`, with so many references and data words
-abbrev pub new : ℕ → ℕ → ℕ → Request
-new dest refs words =
-    with_number (register_of dest) (λ d. with_number (size_of refs) (λ r. with_number (size_of words) (λ w. Ok (large_op.Small (op.New d (record { refs = r; values = w }))))))
+abbrev pub new : ℕ → ℕ → ℕ → ℕ → Request
+new registers dest refs words =
+    with_number (register_of registers dest) (λ d. with_number (size_of refs) (λ r. with_number (size_of words) (λ w. Ok (large_op.Small (op.New d (record { refs = r; values = w }))))))
 
 -- a new large object in register `dest`, whose body has so many blocks
-abbrev pub big : ℕ → ℕ → Request
-big dest blocks = with_number (register_of dest) (λ d. with_number (blocks_of blocks) (λ b. Ok (large_op.Big d b)))
+abbrev pub big : ℕ → ℕ → ℕ → Request
+big registers dest blocks = with_number (register_of registers dest) (λ d. with_number (blocks_of blocks) (λ b. Ok (large_op.Big d b)))
 
 -- reference `index` of what `base` holds becomes what `source` holds
-abbrev pub store : ℕ → ℕ → ℕ → Request
-store base index source = with_number (register_of base) (λ b. with_number (register_of source) (λ s. Ok (large_op.Small (op.Store b (index_of index) s))))
+abbrev pub store : ℕ → ℕ → ℕ → ℕ → Request
+store registers base index source = with_number (register_of registers base) (λ b. with_number (register_of registers source) (λ s. Ok (large_op.Small (op.Store b (index_of index) s))))
 
 -- register `dest` gets reference `index` of what `base` holds
-abbrev pub load : ℕ → ℕ → ℕ → Request
-load dest base index = with_number (register_of dest) (λ d. with_number (register_of base) (λ b. Ok (large_op.Small (op.Load d b (index_of index)))))
+abbrev pub load : ℕ → ℕ → ℕ → ℕ → Request
+load registers dest base index = with_number (register_of registers dest) (λ d. with_number (register_of registers base) (λ b. Ok (large_op.Small (op.Load d b (index_of index)))))
 
 -- data word `index` of what `base` holds is read
-abbrev pub get : ℕ → ℕ → Request
-get base index = with_number (register_of base) (λ b. Ok (large_op.Small (op.Get b (index_of index))))
+abbrev pub get : ℕ → ℕ → ℕ → Request
+get registers base index = with_number (register_of registers base) (λ b. Ok (large_op.Small (op.Get b (index_of index))))
 
 -- data word `index` of what `base` holds becomes `value`
-abbrev pub put : ℕ → ℕ → ℕ → Request
-put base index value = with_number (register_of base) (λ b. Ok (large_op.Small (op.Put b (index_of index) value)))
+abbrev pub put : ℕ → ℕ → ℕ → ℕ → Request
+put registers base index value = with_number (register_of registers base) (λ b. Ok (large_op.Small (op.Put b (index_of index) value)))
 
 -- whether two registers hold the same
-abbrev pub same : ℕ → ℕ → Request
-same left right = with_number (register_of left) (λ l. with_number (register_of right) (λ r. Ok (large_op.Small (op.Same l r))))
+abbrev pub same : ℕ → ℕ → ℕ → Request
+same registers left right = with_number (register_of registers left) (λ l. with_number (register_of registers right) (λ r. Ok (large_op.Small (op.Same l r))))
 
 -- register `dest` gets what `source` holds
-abbrev pub copy : ℕ → ℕ → Request
-copy dest source = with_number (register_of dest) (λ d. with_number (register_of source) (λ s. Ok (large_op.Small (op.Move d s))))
+abbrev pub copy : ℕ → ℕ → ℕ → Request
+copy registers dest source = with_number (register_of registers dest) (λ d. with_number (register_of registers source) (λ s. Ok (large_op.Small (op.Move d s))))
 
 -- register `dest` becomes nil
-abbrev pub nil : ℕ → Request
-nil dest = with_number (register_of dest) (λ d. Ok (large_op.Small (op.Nil d)))
+abbrev pub nil : ℕ → ℕ → Request
+nil registers dest = with_number (register_of registers dest) (λ d. Ok (large_op.Small (op.Nil d)))
 
 -- word `index` of the body of what `base` holds is read
-abbrev pub big_get : ℕ → ℕ → Request
-big_get base index = with_number (register_of base) (λ b. Ok (large_op.BigGet b index))
+abbrev pub big_get : ℕ → ℕ → ℕ → Request
+big_get registers base index = with_number (register_of registers base) (λ b. Ok (large_op.BigGet b index))
 
 -- word `index` of the body of what `base` holds becomes `value`
-abbrev pub big_put : ℕ → ℕ → ℕ → Request
-big_put base index value = with_number (register_of base) (λ b. Ok (large_op.BigPut b index value))
+abbrev pub big_put : ℕ → ℕ → ℕ → ℕ → Request
+big_put registers base index value = with_number (register_of registers base) (λ b. Ok (large_op.BigPut b index value))
 
 -- ---- calls of a station
 
@@ -96,36 +100,31 @@ small_of (Ok (large_op.Small o)) = Ok o
 small_of (Ok o) = Err code.Size
 small_of (Err e) = Err e
 
--- what follows of a number that fits, or the code of what is wrong with it
-abbrev pub with_register : Result ℕ Code → (ℕ → SmallRequest) → SmallRequest
-with_register (Ok n) next = next n
-with_register (Err e) next = Err e
-
 -- reference `index` of what `base` holds becomes what `source` holds, and register `dest` gets what it was
-abbrev pub swap : ℕ → ℕ → ℕ → ℕ → SmallRequest
-swap dest base index source =
-    with_register (register_of dest) (λ d. with_register (register_of base) (λ b. with_register (register_of source) (λ s. Ok (op.Swap d b (index_of index) s))))
+abbrev pub swap : ℕ → ℕ → ℕ → ℕ → ℕ → SmallRequest
+swap registers dest base index source =
+    with_number (register_of registers dest) (λ d. with_number (register_of registers base) (λ b. with_number (register_of registers source) (λ s. Ok (op.Swap d b (index_of index) s))))
 
 -- `value` is added to data word `index` of what `base` holds
-abbrev pub add : ℕ → ℕ → ℕ → SmallRequest
-add base index value = with_register (register_of base) (λ b. Ok (op.Add b (index_of index) value))
+abbrev pub add : ℕ → ℕ → ℕ → ℕ → SmallRequest
+add registers base index value = with_number (register_of registers base) (λ b. Ok (op.Add b (index_of index) value))
 
 -- ---- which pauses an operation may want
 
 -- an operation that makes an object
-abbrev pub IsMaking : LargeOp → Type 0
-IsMaking (large_op.Small (op.New dest shape)) = MayBeCalled (large_op.Small (op.New dest shape))
-IsMaking (large_op.Big dest blocks) = MayBeCalled (large_op.Big dest blocks)
-IsMaking o = ⊥
+abbrev pub IsMaking : ℕ → LargeOp → Type 0
+IsMaking registers (large_op.Small (op.New dest shape)) = MayBeCalled registers (large_op.Small (op.New dest shape))
+IsMaking registers (large_op.Big dest blocks) = MayBeCalled registers (large_op.Big dest blocks)
+IsMaking registers o = ⊥
 
 -- a store of a reference
-abbrev pub IsStoring : LargeOp → Type 0
-IsStoring (large_op.Small (op.Store base index source)) = MayBeCalled (large_op.Small (op.Store base index source))
-IsStoring o = ⊥
+abbrev pub IsStoring : ℕ → LargeOp → Type 0
+IsStoring registers (large_op.Small (op.Store base index source)) = MayBeCalled registers (large_op.Small (op.Store base index source))
+IsStoring registers o = ⊥
 
 -- an operation that makes no object and stores no reference, and so finds room whatever the heap holds
-abbrev pub IsQuiet : LargeOp → Type 0
-IsQuiet (large_op.Small (op.New dest shape)) = ⊥
-IsQuiet (large_op.Small (op.Store base index source)) = ⊥
-IsQuiet (large_op.Big dest blocks) = ⊥
-IsQuiet o = MayBeCalled o
+abbrev pub IsQuiet : ℕ → LargeOp → Type 0
+IsQuiet registers (large_op.Small (op.New dest shape)) = ⊥
+IsQuiet registers (large_op.Small (op.Store base index source)) = ⊥
+IsQuiet registers (large_op.Big dest blocks) = ⊥
+IsQuiet registers o = MayBeCalled registers o

@@ -14,7 +14,7 @@ pub enum Code {
     NoHeap,
     /// The handle has a heap already.
     InUse,
-    /// A register is above 15.
+    /// There is no such register, or it may not stand there.
     Register,
     /// A number of references, words or blocks is out of its range.
     Size,

@@ -12,10 +12,11 @@ use Rattle.lxr_c_base.specs.declared.codes.Code.TheVariants as code
 use Rattle.lxr_c_heap.specs.declared.host.HostHeap.{HostHeap}
 use Rattle.lxr_c_heap.specs.declared.settings.Settings.{Settings}
 use Rattle.lxr_c_heap.specs.Calling.{Asks, AsksPause, Closes, Opens, OpensSome, SetsPace}
-use Rattle.lxr_c_heap.specs.Hosting.{AreSettings, IsHostOf, PausesAsked}
+use Rattle.lxr_c_heap.specs.Hosting.{IsHostOf, PausesAsked}
 use Rattle.lxr_c_heap.specs.Keeping.{Kept}
 use Rattle.lxr_c_heap.specs.Looking.{Looks, Writes}
 use Rattle.lxr_c_heap.specs.Pacing.{limit_of, pace_of}
+use Rattle.lxr_c_heap.specs.Settings.{AreSettings}
 use Rattle.lxr_c_base.specs.Requests.{Request}
 
 module _ (does : HostHeap → HostHeap → List LargeItem → LargeOp → LargeReply → Type 0) (before after : Kept) where

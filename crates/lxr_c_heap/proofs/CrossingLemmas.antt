@@ -32,6 +32,7 @@ use Rattle.lxr_tables.specs.contracts.pages.Pages as Pages
 use Rattle.lxr_tables.specs.contracts.words.PlainWords as PlainWords
 use Rattle.lxr_tables.specs.contracts.words.PlainWords.TheInside as in_words
 use Rattle.lxr_image.specs.contracts.space.Space as Space
+use Rattle.lxr_image.proofs.registers.RegisterFile.TheSendSync as registers
 use Rattle.lxr_image.proofs.space.Tally.TheSendSync as tally
 use Rattle.lxr_large_bodies.proofs.bodies.Bodies.TheSendSync as bodies
 use Rattle.lxr_heap.specs.contracts.LargeHeap as LargeHeap
@@ -99,7 +100,7 @@ entries_send = listed.the_send LogEntry.the_row log_entry.the_send
 
 space_send : IsSend Space.the_row
 space_send =
-    declared_send Space.the_type (words_send, (limits.the_send, (places_send, (places_send, (entries_send, (places_send, (report.the_send, (tally.the_send, (search sendable, (search sendable depth 20, (search sendable, (search sendable, tt))))))))))))
+    declared_send Space.the_type (words_send, (limits.the_send, (registers.the_send, (registers.the_send, (entries_send, (places_send, (report.the_send, (tally.the_send, (search sendable, (search sendable depth 20, (search sendable, (search sendable, tt))))))))))))
 
 heap_send : IsSend Heap.the_row
 heap_send = declared_send Heap.the_type (space_send, (bodies.the_send, (search sendable, (search sendable, (search sendable, (search sendable, tt))))))

@@ -17,31 +17,31 @@ use Rattle.lxr_c_base.specs.Requests.{IsMaking, IsQuiet, IsStoring}
 
 -- ---- each may be called
 
-pub quiet_may : (o : LargeOp) → IsQuiet o → MayBeCalled o
-quiet_may (large_op.Small (op.New dest shape)) is = absurd is
-quiet_may (large_op.Small (op.Store base index source)) is = absurd is
-quiet_may (large_op.Big dest blocks) is = absurd is
-quiet_may o is = is
+pub quiet_may : (registers : ℕ) (o : LargeOp) → IsQuiet registers o → MayBeCalled registers o
+quiet_may registers (large_op.Small (op.New dest shape)) is = absurd is
+quiet_may registers (large_op.Small (op.Store base index source)) is = absurd is
+quiet_may registers (large_op.Big dest blocks) is = absurd is
+quiet_may registers o is = is
 
-pub making_may : (o : LargeOp) → IsMaking o → MayBeCalled o
-making_may (large_op.Small (op.New dest shape)) is = is
-making_may (large_op.Big dest blocks) is = is
-making_may o is = absurd is
+pub making_may : (registers : ℕ) (o : LargeOp) → IsMaking registers o → MayBeCalled registers o
+making_may registers (large_op.Small (op.New dest shape)) is = is
+making_may registers (large_op.Big dest blocks) is = is
+making_may registers o is = absurd is
 
-pub storing_may : (o : LargeOp) → IsStoring o → MayBeCalled o
-storing_may (large_op.Small (op.Store base index source)) is = is
-storing_may o is = absurd is
+pub storing_may : (registers : ℕ) (o : LargeOp) → IsStoring registers o → MayBeCalled registers o
+storing_may registers (large_op.Small (op.Store base index source)) is = is
+storing_may registers o is = absurd is
 
 -- ---- pauses
 
-pub quiet_place : (x : Heap) (o : LargeOp) → IsQuiet o → FindsNoPlace x o → ⊥
-quiet_place x (large_op.Small (op.New dest shape)) is none = is
-quiet_place x (large_op.Big dest blocks) is none = is
-quiet_place x o is none = none
+pub quiet_place : (registers : ℕ) (x : Heap) (o : LargeOp) → IsQuiet registers o → FindsNoPlace x o → ⊥
+quiet_place registers x (large_op.Small (op.New dest shape)) is none = is
+quiet_place registers x (large_op.Big dest blocks) is none = is
+quiet_place registers x o is none = none
 
-pub quiet_log : (x : Heap) (m : Moment) (o : LargeOp) → IsQuiet o → FindsNoLog x m o → ⊥
-quiet_log x m (large_op.Small (op.Store base index source)) is full = is
-quiet_log x m o is full = full
+pub quiet_log : (registers : ℕ) (x : Heap) (m : Moment) (o : LargeOp) → IsQuiet registers o → FindsNoLog x m o → ⊥
+quiet_log registers x m (large_op.Small (op.Store base index source)) is full = is
+quiet_log registers x m o is full = full
 
 -- ---- objects
 
@@ -86,20 +86,20 @@ big_get_tells s i (Some n) made = at_word (word_in (body_of s.large n) i)
     at_word (Some v) = refl
 
 -- the reply of an operation that makes nothing tells of no new object
-pub quiet_makes : (s : LargeState) (o : LargeOp) (made : ℕ) → IsQuiet o → made_by made (large_step s o).1 ≡ made
-quiet_makes s (large_op.Small (op.New dest shape)) made is = absurd is
-quiet_makes s (large_op.Small (op.Load dest base index)) made is = load_tells s.small dest index (register_at s.small 1 base) made
-quiet_makes s (large_op.Small (op.Store base index source)) made is = absurd is
-quiet_makes s (large_op.Small (op.Put base index value)) made is = put_tells s.small index value (register_at s.small 1 base) made
-quiet_makes s (large_op.Small (op.Get base index)) made is = get_tells s.small index (register_at s.small 1 base) made
-quiet_makes s (large_op.Small (op.Swap dest base index source)) made is = absurd is.1
-quiet_makes s (large_op.Small (op.Add base index value)) made is = absurd is.1
-quiet_makes s (large_op.Small (op.Move dest source)) made is = refl
-quiet_makes s (large_op.Small (op.Nil dest)) made is = refl
-quiet_makes s (large_op.Small (op.Same left right)) made is = refl
-quiet_makes s (large_op.Small op.Pause) made is = refl
-quiet_makes s (large_op.Small op.Collect) made is = refl
-quiet_makes s (large_op.Small op.End) made is = refl
-quiet_makes s (large_op.Big dest blocks) made is = absurd is
-quiet_makes s (large_op.BigPut base index value) made is = big_put_tells s index value (register_at s.small 1 base) made
-quiet_makes s (large_op.BigGet base index) made is = big_get_tells s index (register_at s.small 1 base) made
+pub quiet_makes : (registers : ℕ) (s : LargeState) (o : LargeOp) (made : ℕ) → IsQuiet registers o → made_by made (large_step s o).1 ≡ made
+quiet_makes registers s (large_op.Small (op.New dest shape)) made is = absurd is
+quiet_makes registers s (large_op.Small (op.Load dest base index)) made is = load_tells s.small dest index (register_at s.small 1 base) made
+quiet_makes registers s (large_op.Small (op.Store base index source)) made is = absurd is
+quiet_makes registers s (large_op.Small (op.Put base index value)) made is = put_tells s.small index value (register_at s.small 1 base) made
+quiet_makes registers s (large_op.Small (op.Get base index)) made is = get_tells s.small index (register_at s.small 1 base) made
+quiet_makes registers s (large_op.Small (op.Swap dest base index source)) made is = absurd is.1
+quiet_makes registers s (large_op.Small (op.Add base index value)) made is = absurd is.1
+quiet_makes registers s (large_op.Small (op.Move dest source)) made is = refl
+quiet_makes registers s (large_op.Small (op.Nil dest)) made is = refl
+quiet_makes registers s (large_op.Small (op.Same left right)) made is = refl
+quiet_makes registers s (large_op.Small op.Pause) made is = refl
+quiet_makes registers s (large_op.Small op.Collect) made is = refl
+quiet_makes registers s (large_op.Small op.End) made is = refl
+quiet_makes registers s (large_op.Big dest blocks) made is = absurd is
+quiet_makes registers s (large_op.BigPut base index value) made is = big_put_tells s index value (register_at s.small 1 base) made
+quiet_makes registers s (large_op.BigGet base index) made is = big_get_tells s index (register_at s.small 1 base) made

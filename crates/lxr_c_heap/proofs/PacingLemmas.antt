@@ -12,7 +12,7 @@ use Rattle.lxr_large_model.specs.declared.LargeReply.TheVariants as large_reply
 use Rattle.lxr_large_model.specs.History.{LargeItem, Called}
 use Rattle.lxr_heap.specs.declared.bulk.BodyReply.{BodyReply}
 use Rattle.lxr_heap.specs.declared.bulk.BodyReply.TheVariants as body_reply
-use Rattle.lxr_heap.specs.Acting.{MayBeCalled, made_by}
+use Rattle.lxr_heap.specs.Acting.{IsCallable, made_by}
 use Rattle.lxr_heap.specs.Bulk.{with_puts, with_written}
 use Rattle.lxr_heap.specs.Holding.{made_with}
 use Rattle.lxr_c_base.specs.Requests.{IsQuiet}
@@ -29,9 +29,9 @@ none_few : 0 ≤ 8388608
 none_few = omega arith
 
 -- no object takes 8 MB
-pub bytes_few : (o : LargeOp) (r : LargeReply) → MayBeCalled o → bytes_by o r ≤ 8388608
-bytes_few (large_op.Small (op.New dest shape)) (large_reply.Small (reply.New n)) may = shape_few shape may.0.1
-bytes_few (large_op.Big dest blocks) (large_reply.Big n) may = let some = may.2 in omega (arith, some)
+pub bytes_few : (o : LargeOp) (r : LargeReply) → IsCallable o → bytes_by o r ≤ 8388608
+bytes_few (large_op.Small (op.New dest shape)) (large_reply.Small (reply.New n)) may = shape_few shape may.1.0.1
+bytes_few (large_op.Big dest blocks) (large_reply.Big n) may = let some = may.1.2 in omega (arith, some)
 bytes_few o r may = none_few
 
 -- an operation takes no bytes, or makes an object
@@ -50,17 +50,17 @@ grows (large_reply.Big n) made = omega arith
 grows r made = omega arith
 
 -- so what objects take stays below 8 MB for each that was made
-pub bytes_bound : (o : LargeOp) (r : LargeReply) (made : ℕ) → MayBeCalled o → 8388608 * made + bytes_by o r ≤ 8388608 * made_by made r
+pub bytes_bound : (o : LargeOp) (r : LargeReply) (made : ℕ) → IsCallable o → 8388608 * made + bytes_by o r ≤ 8388608 * made_by made r
 bytes_bound o r made may = elim (none_or_one o r made) [
   | inl none ↦ let more = grows r made in omega (arith, none, more)
   | inr one ↦ let few = bytes_few o r may in omega (arith, one, few)
 ]
 
 -- an operation that makes no object takes none
-pub quiet_bytes : (o : LargeOp) (r : LargeReply) → IsQuiet o → bytes_by o r ≡ 0
-quiet_bytes (large_op.Small (op.New dest shape)) r is = absurd is
-quiet_bytes (large_op.Big dest blocks) r is = absurd is
-quiet_bytes o r is = refl
+pub quiet_bytes : (registers : ℕ) (o : LargeOp) (r : LargeReply) → IsQuiet registers o → bytes_by o r ≡ 0
+quiet_bytes registers (large_op.Small (op.New dest shape)) r is = absurd is
+quiet_bytes registers (large_op.Big dest blocks) r is = absurd is
+quiet_bytes registers o r is = refl
 
 -- ---- histories
 

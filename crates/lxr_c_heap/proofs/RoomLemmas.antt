@@ -3,6 +3,7 @@ use Rattle.std.proofs.Common.{◌≡◌, ℕ, ◌+◌, ◌*◌, ◌<◌, ◌≤�
 use mathlib.Core.Bool.{Bool-set}
 use Rattle.std.specs.Coded.{le_prop}
 use Rattle.std.proofs.lemmas.Bool.{cases_lt}
+use Rattle.std.proofs.Math.Nat.{ℕ_set}
 use mathlib.Core.Logic.{∥∥₁_elim, ∥∥₁_prop}
 use Rattle.lxr_graph.specs.declared.Op.TheVariants as op
 use Rattle.lxr_large_model.specs.declared.Acted.{Acted}
@@ -15,7 +16,7 @@ use Rattle.lxr_large_model.specs.Full.{LargeReplies, LargeTerms}
 use Rattle.lxr_large_model.specs.History.{LargeItem, Called, large_moment, large_state}
 use Rattle.lxr_large_model.specs.Step.{IsLargeReply}
 use Rattle.lxr_heap.specs.declared.heap.Heap.{Heap}
-use Rattle.lxr_heap.specs.Acting.{IsReplied, MayBeCalled, WantsNoPause, WantsPause, made_by, Acts as HeapActs}
+use Rattle.lxr_heap.specs.Acting.{IsCallable, IsReplied, WantsNoPause, WantsPause, made_by, Acts as HeapActs}
 use Rattle.lxr_heap.specs.Holding.{IsHeapOf, IsOpenedHeap, terms_of}
 use Rattle.lxr_heap.specs.declared.bulk.BodyReply.{BodyReply}
 use Rattle.lxr_heap.specs.declared.bulk.BodyReply.TheVariants as body_reply
@@ -27,9 +28,10 @@ use Rattle.lxr_c_heap.specs.declared.host.Ends.{Ends}
 use Rattle.lxr_c_heap.specs.declared.host.HostHeap.{HostHeap}
 use Rattle.lxr_c_heap.specs.declared.host.Seal.{Seal}
 use Rattle.lxr_c_heap.specs.declared.settings.Settings.{Settings}
-use Rattle.lxr_c_heap.specs.Hosting.{Acts, HasRoom, IsAtEnd, IsHostOf, IsOpened, IsServing, IsWithin, Needs, Pauses, PausesWhere, Replies, SettlesAt, behind_pause}
+use Rattle.lxr_c_heap.specs.Hosting.{Acts, HasRoom, IsAtEnd, IsHostOf, IsOpened, IsServing, IsWithin, Needs, Pauses, PausesWhere, Replies, SettlesAt, behind_pause, registers_in}
 use Rattle.lxr_c_heap.specs.declared.pacing.Pace.{Pace}
 use Rattle.lxr_c_heap.specs.Pacing.{bytes_by, limit_of, pace_of}
+use Rattle.lxr_c_heap.specs.Settings.{registers_of}
 use Rattle.lxr_c_base.specs.Requests.{IsQuiet}
 use Rattle.lxr_c_heap.proofs.OperationLemmas.{quiet_makes, quiet_may}
 use Rattle.lxr_c_heap.proofs.PacingLemmas.{bytes_bound, bytes_few, paused_host, quiet_bytes, renewed_host, replied_host, written_bytes}
@@ -105,7 +107,7 @@ pub with_less : (objects pauses : ℕ) (x : HostHeap) → HasRoom objects (pause
 with_less objects pauses x room = record { holds = room.holds; made = room.made; paused = let few = room.paused in omega (arith, few); bytes = room.bytes }
 
 -- a heap that was opened has its pace from the first object on
-pub opened_with : (heap : Heap) (wanted : Settings) (pace : Pace) (limit : Option ℕ) (seal : Seal) → IsOpenedHeap heap wanted.blocks wanted.body_blocks → pace ≡ pace_of wanted.pace → limit ≡ limit_of pace heap
+pub opened_with : (heap : Heap) (wanted : Settings) (pace : Pace) (limit : Option ℕ) (seal : Seal) → IsOpenedHeap heap wanted.blocks wanted.body_blocks (registers_of wanted) → pace ≡ pace_of wanted.pace → limit ≡ limit_of pace heap
     → IsOpened (record { heap = heap; pace = pace; limit = limit; bytes = 0; pauses = 0; seal = seal }) wanted
 opened_with heap wanted pace limit seal opened is within = record {
   heap = opened;
@@ -134,11 +136,11 @@ settled_holds ends x y h k is (inr (none, left, same)) = subst (IsHostOf y) (sym
 -- ---- operations
 
 -- what an operation takes has a number
-pub bytes_room : (x : HostHeap) (o : LargeOp) (r : LargeReply) → MayBeCalled o → x.heap.made < 2 ^ 32 → x.bytes ≤ 8388608 * x.heap.made → x.bytes + bytes_by o r < 2 ^ 64
+pub bytes_room : (x : HostHeap) (o : LargeOp) (r : LargeReply) → IsCallable o → x.heap.made < 2 ^ 32 → x.bytes ≤ 8388608 * x.heap.made → x.bytes + bytes_by o r < 2 ^ 64
 bytes_room x o r may few all = let one = bytes_few o r may in omega (arith, one, few, all)
 
 -- it counts what it takes
-replied_bytes : (x y : HostHeap) (h : List LargeItem) (o : LargeOp) (r : LargeReply) → MayBeCalled o → x.bytes ≤ 8388608 * x.heap.made → Replies x y h o r → y.bytes ≤ 8388608 * y.heap.made
+replied_bytes : (x y : HostHeap) (h : List LargeItem) (o : LargeOp) (r : LargeReply) → IsCallable o → x.bytes ≤ 8388608 * x.heap.made → Replies x y h o r → y.bytes ≤ 8388608 * y.heap.made
 replied_bytes x y h o r may before replies =
     let bytes = ap (λ (z : HostHeap). z.bytes) replies.rest in
     let made = replies.heap.made in
@@ -146,7 +148,7 @@ replied_bytes x y h o r may before replies =
     omega (arith, bytes, made, bound, before)
 
 -- an operation takes one object at most, and no pause
-pub replied_room : (objects pauses : ℕ) (x y : HostHeap) (o : LargeOp) (r : LargeReply) → MayBeCalled o → HasRoom (objects + 1) pauses x → ∥ ((h : List LargeItem) × IsHostOf x h × Replies x y h o r) ∥₁ → HasRoom objects pauses y
+pub replied_room : (objects pauses : ℕ) (x y : HostHeap) (o : LargeOp) (r : LargeReply) → IsCallable o → HasRoom (objects + 1) pauses x → ∥ ((h : List LargeItem) × IsHostOf x h × Replies x y h o r) ∥₁ → HasRoom objects pauses y
 replied_room objects pauses x y o r may room some = record {
   holds = ∥∥₁_elim some ∥∥₁_prop (λ of. ∣ (Called o r ∷ of.0, replied_host x y of.0 o r of.1 of.2) ∣₁);
   made = ∥∥₁_elim some le_prop (λ of.
@@ -161,31 +163,31 @@ replied_room objects pauses x y o r may room some = record {
 }
 
 -- the reply of one that makes nothing is that of a step
-quiet_steps : (terms : LargeTerms) (h : List LargeItem) (o : LargeOp) (r : LargeReply) → IsQuiet o → LargeReplies terms h o r → IsLargeReply (large_state h) o r
-quiet_steps terms h (large_op.Small (op.New dest shape)) r is replies = absurd is
-quiet_steps terms h (large_op.Big dest blocks) r is replies = absurd is
-quiet_steps terms h o r is replies = replies
+quiet_steps : (registers : ℕ) (terms : LargeTerms) (h : List LargeItem) (o : LargeOp) (r : LargeReply) → IsQuiet registers o → LargeReplies terms h o r → IsLargeReply (large_state h) o r
+quiet_steps registers terms h (large_op.Small (op.New dest shape)) r is replies = absurd is
+quiet_steps registers terms h (large_op.Big dest blocks) r is replies = absurd is
+quiet_steps registers terms h o r is replies = replies
 
 -- and so it takes no object
-pub quiet_room : (x y : HostHeap) (o : LargeOp) (r : LargeReply) → IsQuiet o → IsServing x → ((h : List LargeItem) → IsHeapOf x.heap h → Replies x y h o r) → IsServing y
+pub quiet_room : (x y : HostHeap) (o : LargeOp) (r : LargeReply) → IsQuiet (registers_in x) o → IsServing x → ((h : List LargeItem) → IsHeapOf x.heap h → Replies x y h o r) → IsServing y
 quiet_room x y o r is room replies = record {
   holds = ∥∥₁_elim room.holds ∥∥₁_prop (λ of. ∣ (Called o r ∷ of.0, replied_host x y of.0 o r of.1 (replies of.0 of.1.heap)) ∣₁);
   made = ∥∥₁_elim room.holds le_prop (λ of.
       let came = (replies of.0 of.1.heap).heap in
-      let step = quiet_steps (terms_of y.heap) of.0 o r is came.holds.legal.1.reply in
-      let same = came.made ∙ ap (made_by x.heap.made) (sym step) ∙ quiet_makes (large_state of.0) o x.heap.made is in
+      let step = quiet_steps (registers_in x) (terms_of y.heap) of.0 o r is came.holds.legal.1.reply in
+      let same = came.made ∙ ap (made_by x.heap.made) (sym step) ∙ quiet_makes (registers_in x) (large_state of.0) o x.heap.made is in
       let few = room.made in
       omega (arith, same, few));
   paused = ∥∥₁_elim room.holds le_prop (λ of.
       let same = called_pauses x.heap y.heap of.0 o r of.1.heap (replies of.0 of.1.heap).heap.holds in
       let few = room.paused in
       omega (arith, same, few));
-  bytes = ∥∥₁_elim room.holds le_prop (λ of. replied_bytes x y of.0 o r (quiet_may o is) room.bytes (replies of.0 of.1.heap));
+  bytes = ∥∥₁_elim room.holds le_prop (λ of. replied_bytes x y of.0 o r (registers_in x, quiet_may (registers_in x) o is) room.bytes (replies of.0 of.1.heap));
 }
 
 -- an operation that makes nothing leaves the bytes
-pub quiet_same : (x : HostHeap) (heap : Heap) (o : LargeOp) (r : LargeReply) → IsQuiet o → record x { heap = heap } ≡ record x { heap = heap; bytes = x.bytes + bytes_by o r }
-quiet_same x heap o r is = ap (λ n. record x { heap = heap; bytes = n }) (let none = quiet_bytes o r is in omega (arith, none))
+pub quiet_same : (x : HostHeap) (heap : Heap) (o : LargeOp) (r : LargeReply) → IsQuiet (registers_in x) o → record x { heap = heap } ≡ record x { heap = heap; bytes = x.bytes + bytes_by o r }
+quiet_same x heap o r is = ap (λ n. record x { heap = heap; bytes = n }) (let none = quiet_bytes (registers_in x) o r is in omega (arith, none))
 
 -- words that are put make no pause
 puts_number : (h : List LargeItem) (base i : ℕ) (words : List ℕ) → (large_moment (with_puts h base i words)).number ≡ (large_moment h).number
@@ -258,6 +260,10 @@ module _ (x : HostHeap) (a : Heap) (m : HostHeap) (o : LargeOp) (collect : Bool)
   pub behind_wants_none : (h : List LargeItem) → IsHeapOf x.heap h → WantsNoPause m.heap (behind_pause m h) o
   behind_wants_none h is = wanted_wants_none x.heap m.heap h o collect (wants x.heap a h o collect (acts h is)) (paused_same h is).heap
 
+  -- it has the registers that it had
+  pub behind_registers : SomeHistory x → registers_in m ≡ registers_in x
+  behind_registers some = ∥∥₁_elim some (ℕ_set _ _) (λ of. ap (λ (t : LargeTerms). t.registers) (paused_same of.0 of.1.heap).heap.terms)
+
   -- and is done
   pub acts_behind : (y : HostHeap) (r : LargeReply) → ((h : List LargeItem) → WantsNoPause m.heap h o → Replies m y h o r) → (h : List LargeItem) → IsHeapOf x.heap h → Acts x y h o r
   acts_behind y r replies h is = record {
@@ -273,7 +279,7 @@ module _ (x : HostHeap) (a : Heap) (m : HostHeap) (o : LargeOp) (collect : Bool)
   pub behind_room : HasRoom 2 2 x → HasRoom 2 1 m
   behind_room room = paused_room 2 1 x m collect room paused_same
 
-  pub behind_serves : (y : HostHeap) (r : LargeReply) → MayBeCalled o → HasRoom 2 2 x → ((h : List LargeItem) → WantsNoPause m.heap h o → Replies m y h o r) → IsServing y
+  pub behind_serves : (y : HostHeap) (r : LargeReply) → IsCallable o → HasRoom 2 2 x → ((h : List LargeItem) → WantsNoPause m.heap h o → Replies m y h o r) → IsServing y
   behind_serves y r may room replies = replied_room 1 1 m y o r may (behind_room room)
       (∥∥₁_elim room.holds ∥∥₁_prop (λ of.
       ∣ (behind_pause m of.0, paused_host x m of.0 collect (paused_same of.0 of.1.heap), replies (behind_pause m of.0) (behind_wants_none of.0 of.1.heap)) ∣₁))

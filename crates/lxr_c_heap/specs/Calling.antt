@@ -9,9 +9,10 @@ use Rattle.lxr_c_heap.specs.declared.host.Ends.{Ends}
 use Rattle.lxr_c_heap.specs.declared.host.HostHeap.{HostHeap}
 use Rattle.lxr_c_heap.specs.declared.settings.Settings.{Settings}
 use Rattle.lxr_c_base.specs.Codes.{Answer, answered}
-use Rattle.lxr_c_heap.specs.Hosting.{AreSettings, IsHostOf, IsOpened, PausesAsked, SettlesAt}
+use Rattle.lxr_c_heap.specs.Hosting.{IsHostOf, IsOpened, PausesAsked, SettlesAt}
 use Rattle.lxr_c_heap.specs.Keeping.{Kept}
 use Rattle.lxr_c_heap.specs.Pacing.{limit_of, pace_of}
+use Rattle.lxr_c_heap.specs.Settings.{AreSettings}
 use Rattle.lxr_c_base.specs.Requests.{Request}
 
 -- ---- a heap

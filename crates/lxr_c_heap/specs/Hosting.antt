@@ -1,6 +1,5 @@
 -- What a program's heap does at a call, with the pauses that it makes by itself: each for a cause.
 use Rattle.std.specs.Prelude.{◌≡◌, ℕ, ◌+◌, ◌*◌, ◌%◌, ◌^◌, ◌<◌, ◌≤◌, ◌⊎◌, Bool, true, false, List, ◌∷◌}
-use Rattle.lxr_layout.specs.declared.TheConstants.{MOST_BLOCKS}
 use Rattle.lxr_graph.specs.History.{report_of}
 use Rattle.lxr_large_model.specs.declared.LargeOp.{LargeOp}
 use Rattle.lxr_large_model.specs.declared.LargeReply.{LargeReply}
@@ -13,8 +12,8 @@ use Rattle.lxr_c_heap.specs.declared.host.Ends.{Ends}
 use Rattle.lxr_c_heap.specs.declared.host.TheConstants.{ENDS}
 use Rattle.lxr_c_heap.specs.declared.host.HostHeap.{HostHeap}
 use Rattle.lxr_c_heap.specs.declared.settings.Settings.{Settings}
-use Rattle.lxr_c_heap.specs.declared.settings.TheConstants.{SETTINGS_BYTES}
 use Rattle.lxr_c_heap.specs.Pacing.{IsReached, bytes_by, bytes_made, limit_of, pace_of}
+use Rattle.lxr_c_heap.specs.Settings.{registers_of}
 
 -- ---- a heap that serves
 
@@ -35,19 +34,13 @@ pub record HasRoom (objects pauses : ℕ) (x : HostHeap) : Type 0 where
 abbrev pub IsServing : HostHeap → Type 0
 IsServing = HasRoom 1 1
 
--- so many blocks a heap may have, of either kind
-abbrev pub IsBlockCount : ℕ → Type 0
-IsBlockCount n = (1 ≤ n) × (n ≤ MOST_BLOCKS)
+-- how many registers its thread may name
+abbrev pub registers_in : HostHeap → ℕ
+registers_in x = x.heap.space.limits.registers
 
--- settings of a size that is known, with such blocks as a heap may have
-pub record AreSettings (s : Settings) : Type 0 where
-  pub size : s.size ≡ SETTINGS_BYTES
-  pub blocks : IsBlockCount s.blocks
-  pub bodies : IsBlockCount s.body_blocks
-
--- a heap that was opened with settings: of their blocks, and with their pace from the first object on
+-- a heap that was opened with settings: of their blocks and registers, and with their pace from the first object on
 pub record IsOpened (x : HostHeap) (s : Settings) : Type 0 where
-  pub heap : IsOpenedHeap x.heap s.blocks s.body_blocks
+  pub heap : IsOpenedHeap x.heap s.blocks s.body_blocks (registers_of s)
   pub rest : x ≡ record { heap = x.heap; pace = pace_of s.pace; limit = limit_of (pace_of s.pace) x.heap; bytes = 0; pauses = 0; seal = x.seal }
 
 -- ---- pauses

@@ -1,7 +1,7 @@
 -- What a handle keeps, and owns: the heap of a program in a box, or nothing.
 use base.Fml.{Fml, ftrue}
 use denote.RawPtr.{Ptr}
-use Rattle.std.specs.Prelude.{◌≡◌, IsSome, Result, Ok, Err}
+use Rattle.std.specs.Prelude.{◌≡◌, ℕ, IsSome, Result, Ok, Err}
 use Rattle.std.specs.declared.option.Option.{Option}
 use Rattle.std.specs.declared.option.Option.TheVariants.{None, Some}
 use Rattle.std.specs.Box.Ownership.{box_owns}
@@ -25,6 +25,11 @@ block_owns alloc p (Some x) = box_owns (ghosts.dealloc_token alloc) the_row p x
 abbrev pub kept_of : Option (Box HostHeap) → Kept
 kept_of None = None
 kept_of (Some b) = Some b.value
+
+-- how many registers may be named: those of the heap, and none where there is none
+abbrev pub registers_kept : Kept → ℕ
+registers_kept None = 0
+registers_kept (Some x) = x.heap.space.limits.registers
 
 -- it was asked whether there is a heap
 abbrev pub Finds : Kept → Result (Unit {0}) Code → Type 0

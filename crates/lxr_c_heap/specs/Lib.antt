@@ -1,3 +1,4 @@
+pub mod Settings
 pub mod Pacing
 pub mod Hosting
 pub mod Keeping

@@ -2,7 +2,9 @@
 ghost use Rattle.std.specs.Prelude.{◌≡◌, ◌↔◌, None, IsTrue, IfOk, IfSome};
 ghost use Rattle.lxr_c_base.specs.Requests.{IsMaking, IsQuiet, IsStoring};
 ghost use Rattle.lxr_c_heap.specs.Calling.{Asks, AsksPause, Closes, Opens, SetsPace};
-ghost use Rattle.lxr_c_heap.specs.Hosting.{AreSettings, IsOpened, IsServing, Makes, Replies, Stores};
+ghost use Rattle.lxr_c_heap.specs.Hosting.{IsOpened, IsServing, Makes, Replies, Stores};
+ghost use Rattle.lxr_c_heap.specs.Keeping.{registers_kept};
+ghost use Rattle.lxr_c_heap.specs.Settings.{AreSettings};
 
 use crate::handle::Handle;
 use crate::host::HostHeap;
@@ -74,7 +76,7 @@ impl Handle {
     /// Does an operation that makes no object and stores no reference.
     #[inline(always)]
     pub fn reply(&mut self, request: Result<LargeOp, Code>) -> Result<LargeReply, Code>
-        requires { IfOk request IsQuiet }
+        requires { IfOk request (IsQuiet (registers_kept self.old.block.value)) }
         ensures { Asks Replies self.old.block.value self.new.block.value request result }
     {
         self.found()?;
@@ -85,7 +87,7 @@ impl Handle {
     /// Stores a reference.
     #[inline(always)]
     pub fn store(&mut self, request: Result<LargeOp, Code>) -> Result<LargeReply, Code>
-        requires { IfOk request IsStoring }
+        requires { IfOk request (IsStoring (registers_kept self.old.block.value)) }
         ensures { Asks Stores self.old.block.value self.new.block.value request result }
     {
         self.found()?;
@@ -96,7 +98,7 @@ impl Handle {
     /// Makes an object.
     #[inline(always)]
     pub fn make(&mut self, request: Result<LargeOp, Code>) -> Result<LargeReply, Code>
-        requires { IfOk request IsMaking }
+        requires { IfOk request (IsMaking (registers_kept self.old.block.value)) }
         ensures { Asks Makes self.old.block.value self.new.block.value request result }
     {
         self.found()?;

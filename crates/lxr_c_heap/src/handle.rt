@@ -1,8 +1,9 @@
 //! What a program in C holds: a struct of two words of its own, which begins as zeros.
-ghost use Rattle.std.specs.Prelude.{◌≡◌, ◌<◌, ◌↔◌, None, Some, IsSome, IsTrue, IfSome};
+ghost use Rattle.std.specs.Prelude.{◌≡◌, ◌<◌, ◌≤◌, ◌↔◌, None, Some, IsSome, IsTrue, IfSome};
 ghost use Rattle.std.specs.Option.{ForSome};
+ghost use Rattle.lxr_layout.specs.declared.TheConstants.{REGISTERS};
 ghost use Rattle.lxr_c_heap.specs.Hosting.{IsServing, IsWithin};
-ghost use Rattle.lxr_c_heap.specs.Keeping.{Finds, kept_of};
+ghost use Rattle.lxr_c_heap.specs.Keeping.{Finds, kept_of, registers_kept};
 
 use crate::block::Block;
 use crate::host::{Ends, HostHeap};
@@ -13,10 +14,13 @@ use std::mem;
 /// A heap, or none where the first word is 0. It has no `Drop`, so that no heap is forgotten.
 #[repr(C)]
 pub struct Handle {
-    live: u64,
+    /// How many registers the heap has: so a call looks at its numbers before the heap.
+    registers: u64,
     pub block: Block,
-    ghost empty: { live ≡ 0 → block.value ≡ None },
-    ghost full: { 0 < live → IsSome block.value },
+    ghost empty: { registers ≡ 0 → block.value ≡ None },
+    ghost full: { 0 < registers → IsSome block.value },
+    ghost few: { registers ≤ REGISTERS },
+    ghost counted: { registers_kept block.value ≡ registers },
     ghost serving: { ForSome block.value IsServing },
 }
 
@@ -29,7 +33,7 @@ impl Handle {
         ensures { result.block.value ≡ None }
     {
         Handle {
-            live: 0,
+            registers: 0,
             block: Block::empty(alloc),
         }
     }
@@ -39,7 +43,16 @@ impl Handle {
     pub(crate) fn has_heap(&self) -> bool
         ensures { IsTrue result ↔ IsSome self.now.block.value }
     {
-        self.live != 0
+        self.registers != 0
+    }
+
+    /// How many registers may be named: those of the heap, and none where there is none.
+    #[inline(always)]
+    pub fn registers(&self) -> u16
+        ensures counted { result ≡ registers_kept self.now.block.value }
+        ensures few { result ≤ REGISTERS }
+    {
+        self.registers as u16
     }
 
     /// Says so where there is no heap.
@@ -60,8 +73,8 @@ impl Handle {
         ensures serving { IfSome result (λ b. IsServing b.value) }
         ensures emptied { self.new.block.value ≡ None }
     {
-        let Handle { live, block } = mem::replace(self, Handle::none(alloc));
-        if live == 0 {
+        let Handle { registers, block } = mem::replace(self, Handle::none(alloc));
+        if registers == 0 {
             block.end();
             return None;
         }
@@ -76,10 +89,13 @@ impl Handle {
         ensures { self.new.block.value ≡ Some heap.value }
     {
         let full = Handle {
-            live: 1,
+            registers: u64::from(heap.heap.registers()),
             block: Block::of_parts(Parts::of(heap)),
         };
-        let Handle { live: _, block } = mem::replace(self, full);
+        let Handle {
+            registers: _,
+            block,
+        } = mem::replace(self, full);
         block.end();
     }
 
@@ -88,7 +104,10 @@ impl Handle {
         ensures { Closes self.block.value None result }
     {
         let code = self.close(alloc);
-        let Handle { live: _, block } = self;
+        let Handle {
+            registers: _,
+            block,
+        } = self;
         block.end();
         code
     }

@@ -2,9 +2,10 @@
 ghost use Rattle.std.specs.Prelude.{◌≡◌, ◌+◌, ◌-◌, ◌*◌, ◌^◌, ◌<◌, ◌≤◌, ◌↔◌, false, List, IsTrue, IfOk};
 ghost use Rattle.lxr_large_model.specs.History.{LargeItem};
 ghost use Rattle.lxr_heap.specs.Holding.{IsHeapOf};
-ghost use Rattle.lxr_heap.specs.Acting.{MayBeCalled, WantsNoPause};
-ghost use Rattle.lxr_c_heap.specs.Hosting.{Acts, AreSettings, HasRoom, IsAtEnd, IsDue, IsHostOf, IsOpened, IsServing, IsWithin, Makes, Pauses, PausesAsked, PausesWhere, Replies, SettlesAt, Stores};
+ghost use Rattle.lxr_heap.specs.Acting.{IsCallable, MayBeCalled, WantsNoPause};
+ghost use Rattle.lxr_c_heap.specs.Hosting.{Acts, HasRoom, IsAtEnd, IsDue, IsHostOf, IsOpened, IsServing, IsWithin, Makes, Pauses, PausesAsked, PausesWhere, Replies, SettlesAt, Stores, registers_in};
 ghost use Rattle.lxr_c_heap.specs.Pacing.{bytes_by, limit_of};
+ghost use Rattle.lxr_c_heap.specs.Settings.{AreSettings};
 ghost use Rattle.lxr_c_base.specs.Requests.{IsMaking, IsQuiet, IsStoring};
 
 use crate::pacing::{Pace, bytes_of, is_reached};
@@ -50,7 +51,12 @@ impl HostHeap {
         ensures opened { IfOk result (λ x. IsOpened x wanted.now) }
         ensures serving { IfOk result IsServing }
     {
-        let heap = LargeHeap::open(alloc, wanted.blocks, wanted.body_blocks)?;
+        let heap = LargeHeap::open(
+            alloc,
+            wanted.blocks,
+            wanted.body_blocks,
+            wanted.registers() as u16,
+        )?;
         let pace = Pace::of(wanted.pace);
         Ok(HostHeap {
             limit: pace.limit(&heap),
@@ -134,7 +140,7 @@ impl HostHeap {
     /// Counts the bytes of the object that an operation made, if it made one.
     #[inline(always)]
     fn count_bytes(&mut self, op: LargeOp, reply: LargeReply)
-        requires op { MayBeCalled op }
+        requires op { IsCallable op }
         requires room { self.old.bytes + bytes_by op reply < 2 ^ 64 }
         ensures { self.new ≡ record self.old { bytes = self.old.bytes + bytes_by op reply } }
     {
@@ -147,7 +153,7 @@ impl HostHeap {
     fn act_behind(&mut self, op: LargeOp) -> LargeReply
         requires made { self.old.heap.made < 2 ^ 32 - 1 }
         requires bytes { self.old.bytes ≤ 8388608 * self.old.heap.made }
-        requires op { MayBeCalled op }
+        requires op { MayBeCalled (registers_in self.old) op }
         requires ready { ∥ ((h : List LargeItem) × WantsNoPause self.old.heap h op) ∥₁ }
         ensures { (h : List LargeItem) → WantsNoPause self.old.heap h op → Replies self.old self.new h op result }
     {
@@ -164,7 +170,7 @@ impl HostHeap {
     #[inline(always)]
     fn act(&mut self, op: LargeOp) -> LargeReply
         requires room { HasRoom 2 2 self.old }
-        requires op { MayBeCalled op }
+        requires op { MayBeCalled (registers_in self.old) op }
         ensures acts { (h : List LargeItem) → IsHeapOf self.old.heap h → Acts self.old self.new h op result }
         ensures serving { IsServing self.new }
     {
@@ -188,7 +194,7 @@ impl HostHeap {
     #[inline(always)]
     pub fn reply(&mut self, op: LargeOp) -> LargeReply
         requires serving { IsServing self.old }
-        requires op { IsQuiet op }
+        requires op { IsQuiet (registers_in self.old) op }
         ensures replies { (h : List LargeItem) → IsHeapOf self.old.heap h → Replies self.old self.new h op result }
         ensures serving { IsServing self.new }
     {
@@ -202,7 +208,7 @@ impl HostHeap {
     #[inline(always)]
     pub fn store(&mut self, op: LargeOp) -> LargeReply
         requires serving { IsServing self.old }
-        requires op { IsStoring op }
+        requires op { IsStoring (registers_in self.old) op }
         ensures stores { (h : List LargeItem) → IsHostOf self.old h → Stores self.old self.new h op result }
         ensures serving { IsServing self.new }
     {
@@ -214,7 +220,7 @@ impl HostHeap {
     #[inline(always)]
     pub fn make(&mut self, op: LargeOp) -> LargeReply
         requires serving { IsServing self.old }
-        requires op { IsMaking op }
+        requires op { IsMaking (registers_in self.old) op }
         ensures makes { (h : List LargeItem) → IsHostOf self.old h → Makes self.old self.new h op result }
         ensures serving { IsServing self.new }
     {

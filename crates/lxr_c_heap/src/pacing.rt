@@ -1,6 +1,6 @@
 //! When plain pauses come by themselves: once so many bytes of new objects were made since the last pause.
 ghost use Rattle.std.specs.Prelude.{◌≡◌, ◌↔◌, IsTrue};
-ghost use Rattle.lxr_heap.specs.Acting.{MayBeCalled};
+ghost use Rattle.lxr_heap.specs.Acting.{IsCallable};
 ghost use Rattle.lxr_c_heap.specs.Pacing.{IsReached, bytes_by, free_bytes as is_free_bytes, limit_of, pace_of};
 
 use lxr_graph::{Op, Reply};
@@ -81,7 +81,7 @@ pub(crate) fn is_reached(limit: Option<u64>, bytes: u64) -> bool
 /// The bytes of the new object of which a reply tells, if it tells of one.
 #[inline(always)]
 pub(crate) fn bytes_of(op: LargeOp, reply: LargeReply) -> u64
-    requires { MayBeCalled op }
+    requires { IsCallable op }
     ensures { result ≡ bytes_by op reply }
 {
     match (op, reply) {

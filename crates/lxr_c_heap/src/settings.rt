@@ -1,14 +1,21 @@
 //! What a program in C says of a heap for one thread.
 ghost use Rattle.std.specs.Prelude.{◌≡◌, ◌↔◌, IsTrue};
-ghost use Rattle.lxr_c_heap.specs.Hosting.{AreSettings, IsBlockCount};
+ghost use Rattle.lxr_c_heap.specs.Settings.{AreSettings, IsBlockCount, IsKnownSize, IsRegisterCount, registers_of};
 
-use lxr_layout::MOST_BLOCKS;
+use lxr_layout::{MOST_BLOCKS, REGISTERS};
 
-/// The bytes of the settings that are known: of later versions this is the least size, and what a shorter one hasn't is as it was before.
-pub const SETTINGS_BYTES: u64 = 24;
+/// The bytes of the settings that are known: of later versions this is the least size but for that of version 0.2, and what a shorter one
+/// hasn't is as it was before.
+pub const SETTINGS_BYTES: u64 = 32;
 
-/// The settings of a heap, as `lxr_settings` has them: how many bytes they are, how many blocks the heap has, and for bodies, and after how
-/// many bytes of new objects a plain pause is due.
+/// The bytes of the settings of version 0.2, which don't say how many registers a heap has.
+pub const FIRST_SETTINGS_BYTES: u64 = 24;
+
+/// How many registers a heap has at least, and where its settings don't say it.
+pub const LEAST_REGISTERS: u32 = 16;
+
+/// The settings of a heap, as `lxr_settings` has them: how many bytes they are, how many blocks the heap has, and for bodies, after how
+/// many bytes of new objects a plain pause is due, and how many registers it has. What stands after so many bytes isn't read.
 #[repr(C)]
 #[derive(Drop)]
 pub struct Settings {
@@ -16,6 +23,10 @@ pub struct Settings {
     pub blocks: u32,
     pub body_blocks: u32,
     pub pace: u64,
+    /// 16 to 256, and 0 for 16.
+    pub registers: u32,
+    /// Nothing is said by these bytes.
+    pub unused: u32,
 }
 
 /// Whether a heap may have so many blocks.
@@ -25,15 +36,45 @@ fn is_block_count(count: u32) -> bool
     1 <= count && count <= MOST_BLOCKS
 }
 
+/// Whether a heap may have so many registers.
+fn is_register_count(count: u32) -> bool
+    ensures { IsTrue result ↔ IsRegisterCount count }
+{
+    LEAST_REGISTERS <= count && count <= REGISTERS as u32
+}
+
 impl Settings {
+    /// Whether their size is known.
+    fn has_known_size(&self) -> bool
+        ensures { IsTrue result ↔ IsKnownSize self.now.size }
+    {
+        self.size == SETTINGS_BYTES || self.size == FIRST_SETTINGS_BYTES
+    }
+
+    /// How many registers the heap is to have.
+    pub(crate) fn registers(&self) -> u32
+        ensures { result ≡ registers_of self.now }
+    {
+        if self.size == FIRST_SETTINGS_BYTES {
+            return LEAST_REGISTERS;
+        }
+        if self.registers == 0 {
+            return LEAST_REGISTERS;
+        }
+        self.registers
+    }
+
     /// Whether there are such heaps.
     pub(crate) fn fit(&self) -> bool
         ensures { IsTrue result ↔ AreSettings self.now }
     {
-        if self.size != SETTINGS_BYTES {
+        if !self.has_known_size() {
             return false;
         }
         if !is_block_count(self.blocks) {
+            return false;
+        }
+        if !is_register_count(self.registers()) {
             return false;
         }
         is_block_count(self.body_blocks)

@@ -30,11 +30,11 @@ entry_host x y h k e told is (a, asks, performs) = performs_host x y h k a told 
 -- ---- entries
 
 -- where all ask for something, each does
-pub asks_at : (es : List Operation) (i : ℕ) (d : Operation) → AllAsk es (Ok tt) → i < length es → Asks (get_or es i d)
-asks_at [] i d all within = absurd (omega (arith, within))
-asks_at (e ∷ es) zero d (inl (asks, rest)) within = asks
-asks_at (e ∷ es) (suc i) d (inl (asks, rest)) within = asks_at es i d rest (omega (arith, within))
-asks_at (e ∷ es) i d (inr (c, bad, other)) within = absurd (cc)
+pub asks_at : (registers : ℕ) (es : List Operation) (i : ℕ) (d : Operation) → AllAsk registers es (Ok tt) → i < length es → Asks registers (get_or es i d)
+asks_at registers [] i d all within = absurd (omega (arith, within))
+asks_at registers (e ∷ es) zero d (inl (asks, rest)) within = asks
+asks_at registers (e ∷ es) (suc i) d (inl (asks, rest)) within = asks_at registers es i d rest (omega (arith, within))
+asks_at registers (e ∷ es) i d (inr (c, bad, other)) within = absurd (cc)
 
 -- an entry behind those that were told is as it was
 pub untold_at : (es : List Operation) (ts : List Told) (i : ℕ) (d : Operation) → length ts ≤ i → get_or (all_told es ts) i d ≡ get_or es i d

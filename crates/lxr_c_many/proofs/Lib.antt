@@ -1,4 +1,5 @@
 pub mod FollowLemmas
+pub mod ClearingLemmas
 pub mod FieldLemmas
 pub mod StateLemmas
 pub mod StepLemmas

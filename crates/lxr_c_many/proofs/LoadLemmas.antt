@@ -22,10 +22,10 @@ use Rattle.lxr_c_many.proofs.StateLemmas.{load_graph, load_register}
 -- ---- registers
 
 -- a number among those of registers is small
-pub register_small : (rs : List ℕ) (i : ℕ) → IsTrue (are_registers rs) → i < length rs → get_or rs i 0 < 16
-register_small rs i all within = elim (cases_lt (get_or rs i 0) 16) [
+pub register_small : (registers : ℕ) (rs : List ℕ) (i : ℕ) → IsTrue (are_registers registers rs) → i < length rs → get_or rs i 0 < registers
+register_small registers rs i all within = elim (cases_lt (get_or rs i 0) registers) [
   | inl less ↦ less
-  | inr over ↦ absurd (true≢false (sym all ∙ list_all_at (λ r. nat_lt r 16) rs i 0 within (le-ltb (get_or rs i 0) 16 over)))
+  | inr over ↦ absurd (true≢false (sym all ∙ list_all_at (λ r. nat_lt r registers) rs i 0 within (le-ltb (get_or rs i 0) registers over)))
 ]
 
 -- none but the last is the base

@@ -6,8 +6,9 @@ use Rattle.std.proofs.lemmas.List.{append-nil, length-map}
 use Rattle.std.proofs.lemmas.Option.{slice_get-get_or}
 use Rattle.lxr_layout.specs.declared.Name.{Name}
 use Rattle.lxr_layout.specs.declared.Place.{Place}
-use Rattle.lxr_layout.specs.declared.TheConstants.{GRANULES_IN_BLOCK, MOST_BLOCKS, WORDS_IN_BLOCK}
+use Rattle.lxr_layout.specs.declared.TheConstants.{GRANULES_IN_BLOCK, MOST_BLOCKS, REGISTERS, WORDS_IN_BLOCK}
 use Rattle.lxr_layout.specs.Places.{IsPlace, field_word}
+use Rattle.lxr_layout.specs.Registers.{nil}
 use Rattle.lxr_graph.specs.Names.{AreInOrder, has}
 use Rattle.lxr_graph.specs.Renewing.{renewed_held, renewed_name}
 use Rattle.lxr_graph.specs.State.{Object, State, object_at, refs_of, register_at, register_index, world_name}
@@ -20,7 +21,6 @@ use Rattle.lxr_invariant.specs.AbstractState.{members}
 use Rattle.lxr_core_invariant.proofs.HeldLemmas.{IsHeld, in_register}
 use Rattle.lxr_core_invariant.specs.Imaged.{IsReferenceAt}
 use Rattle.lxr_core_inv_heap.proofs.LogsReferenceLemmas.{clear_is_cleared, set_is_uncleared}
-use Rattle.lxr_direct.specs.Operating.{nil}
 use Rattle.lxr_renew.proofs.StateLemmas.{refs_renewed}
 use Rattle.lxr_large_model.specs.History.{LargeItem, Renewed, large_moment, large_state}
 use Rattle.lxr_large_model.specs.Pauses.{most_logged}
@@ -75,8 +75,8 @@ lies_in_heap p words refs values granules blocks some cover even within = omega 
 small_place : (p words refs values granules blocks : ℕ) → 1 ≤ p → 1 + refs + values ≤ words → words ≡ 2 * granules → p - 1 + granules ≤ GRANULES_IN_BLOCK * blocks → blocks ≤ MOST_BLOCKS → p ≤ GRANULES_IN_BLOCK * MOST_BLOCKS
 small_place p words refs values granules blocks some cover even within few = omega (arith, some, cover, even, within, few)
 
--- there are sixteen registers
-pub registers_many : (x : Heap) (h : List LargeItem) → IsHeapOf x h → (base : ℕ) → base < 16 → base < length x.space.registers.items
+-- there are 256 registers
+pub registers_many : (x : Heap) (h : List LargeItem) → IsHeapOf x h → (base : ℕ) → base < REGISTERS → base < length x.space.registers.items
 registers_many x h is base small = let all = is.rests.safepoint.holds.as_many.0 in let one = one_thread x h is in omega (arith, all, one, small)
 
 module _ (x : Heap) (h : List LargeItem) (is : IsHeapOf x h) (base most : ℕ) (has_refs : HasReferences (large_state h) base most) (place : Place) (there : slice_get x.space.registers.items base ≡ Some place) where
@@ -148,7 +148,7 @@ module _ (x : Heap) (h : List LargeItem) (is : IsHeapOf x h) (base most : ℕ) (
   counted first count few = bits_as_many m (register_at m.state 1 base) (tables_of x.space).unlogged place.0 first count (λ i less. bit (first + i) (omega (arith, few, less)))
 
 -- so what a register holds has no more
-pub references_few : (x : Heap) (h : List LargeItem) → IsHeapOf x h → (base most : ℕ) → base < 16 → HasReferences (large_state h) base most → most ≤ 1023
+pub references_few : (x : Heap) (h : List LargeItem) → IsHeapOf x h → (base most : ℕ) → base < REGISTERS → HasReferences (large_state h) base most → most ≤ 1023
 references_few x h is base most small has_refs =
     few_references x h is base most has_refs (get_or x.space.registers.items base nil) (slice_get-get_or x.space.registers.items base nil (registers_many x h is base small))
 

@@ -1,6 +1,7 @@
 -- A new object has its references and its words, and no store to it is recorded, since it was made after the last pause.
 use Rattle.std.proofs.Common.{◌≡◌, ℕ, ◌+◌, ◌<◌, ◌≤◌, ◌∙◌, refl, sym, ap, subst, arith, true, false, cond, Option, Some, None, List, ◌∷◌, ◌++◌, length}
 use Rattle.std.proofs.lemmas.List.{get_or-set_same, length-replicate}
+use Rattle.lxr_layout.specs.declared.TheConstants.{REGISTERS}
 use Rattle.lxr_layout.specs.declared.Name.{Name}
 use Rattle.lxr_graph.specs.declared.Reply.TheVariants as reply
 use Rattle.lxr_graph.specs.Names.{has}
@@ -15,9 +16,11 @@ use Rattle.lxr_large_model.specs.History.{LargeItem, Called, large_moment, large
 use Rattle.lxr_large_model.specs.State.{LargeState}
 use Rattle.lxr_heap.specs.Holding.{IsHeapOf, abstract_after}
 use Rattle.lxr_heap.proofs.HeapLemmas.{one_thread}
-use Rattle.lxr_heap.proofs.MomentLemmas.{sixteen, two_rows}
+use Rattle.lxr_heap.proofs.MomentLemmas.{one_row, two_rows}
 use Rattle.lxr_c_heap.specs.declared.host.HostHeap.{HostHeap}
-use Rattle.lxr_c_heap.specs.Hosting.{IsHostOf, Makes, Replies}
+use Rattle.lxr_c_heap.specs.Hosting.{IsHostOf, Makes, Replies, registers_in}
+use Rattle.lxr_c_heap.proofs.RegisterLemmas.{known, made_keeps}
+use Rattle.lxr_c_heap.proofs.RoomLemmas.{SomeHistory}
 use Rattle.lxr_c_many.specs.declared.making.Wanted.{Wanted}
 use Rattle.lxr_c_many.specs.Fields.{put_of, store_of}
 use Rattle.lxr_c_many.specs.Following.{Follows, newest_first}
@@ -34,6 +37,10 @@ use Rattle.lxr_c_many.proofs.StoringLemmas.{log_fits}
 pub one_made : (r : LargeReply) → makes_one r ≡ true → (n : Name) × (r ≡ large_reply.Small (reply.New n))
 one_made (large_reply.Small (reply.New n)) one = (n, refl)
 one_made r one = absurd (cc)
+
+-- and the heap has as many registers as before
+pub made_same : (wanted : Wanted) (x y : HostHeap) (r : LargeReply) → SomeHistory x → ((h : List LargeItem) → IsHostOf x h → Makes x y h (new_of wanted) r) → registers_in y ≡ registers_in x
+made_same wanted x y r some makes = known x (registers_in y) (registers_in x) some (λ h is. made_keeps x y h (new_of wanted) r (makes h is))
 
 -- where it tells of none, there is nothing to fill
 pub none_filled : (wanted : Wanted) (sources words : List ℕ) (m : HostHeap) (k : List LargeItem) (r : LargeReply) → makes_one r ≡ false → Fills wanted sources words m k m r
@@ -52,7 +59,7 @@ pub record IsNew (sources words : List ℕ) (wanted : Wanted) (y : HostHeap) (k 
   pub references : MayBeStored k wanted.dest 0 (length sources)
   pub data_words : HasWords (large_state k) wanted.dest (0 + length words)
 
-module _ (sources words : List ℕ) (wanted : Wanted) (is : IsWanted sources words wanted) (x y : HostHeap) (h : List LargeItem) (n : Name) (host : IsHostOf x h)
+module _ (registers : ℕ) (few : registers ≤ REGISTERS) (sources words : List ℕ) (wanted : Wanted) (is : IsWanted registers sources words wanted) (x y : HostHeap) (h : List LargeItem) (n : Name) (host : IsHostOf x h)
     (replies : Replies x y h (new_of wanted) (large_reply.Small (reply.New n))) where
   abbrev k : List LargeItem
   k = Called (new_of wanted) (large_reply.Small (reply.New n)) ∷ h
@@ -75,14 +82,14 @@ module _ (sources words : List ℕ) (wanted : Wanted) (is : IsWanted sources wor
       let same = ap (λ (z : State). length z.graph) host.heap.state in
       omega (arith, two, same)
 
-  many : length s.small.registers ≡ 16
+  many : length s.small.registers ≡ REGISTERS
   many =
-      let sixteen_are = sixteen x.heap.space (abstract_after h host.heap.at) host.heap.rests (one_thread x.heap h host.heap) in
+      let rows_are = one_row x.heap.space (abstract_after h host.heap.at) host.heap.rests (one_thread x.heap h host.heap) in
       let same = ap (λ (z : State). length z.registers) host.heap.state in
-      omega (arith, sixteen_are, same)
+      omega (arith, rows_are, same)
 
   held : register_at (large_state k).small 1 wanted.dest ≡ Some n
-  held = get_or-set_same s.small.registers (register_index 1 wanted.dest) (Some (next_name g 1)) None (let dest = is.dest in let all = many in omega (arith, dest, all)) ∙ ap Some named
+  held = get_or-set_same s.small.registers (register_index 1 wanted.dest) (Some (next_name g 1)) None (let dest = is.dest in let all = many in omega (arith, dest, all, few)) ∙ ap Some named
 
   there : object_at (large_state k).small.graph n ≡ Some (fresh wanted.shape)
   there =
@@ -107,8 +114,8 @@ module _ (sources words : List ℕ) (wanted : Wanted) (is : IsWanted sources wor
       };
       room =
           let none : to_record (large_moment k) (register_at (large_moment k).state 1 wanted.dest) 0 (length sources) ≡ 0 = ap (λ v. to_record (large_moment k) v 0 (length sources)) at_moment ∙ none_of_new (large_moment k) n 0 (length sources) unreclaimed in
-          let few = log_fits y.heap k holds in
-          omega (arith, none, few);
+          let fits = log_fits y.heap k holds in
+          omega (arith, none, fits);
     };
     data_words = record {
       name = n;
@@ -118,10 +125,10 @@ module _ (sources words : List ℕ) (wanted : Wanted) (is : IsWanted sources wor
   }
 
 -- behind a reply that tells of an object, it may be filled
-pub made_object : (sources words : List ℕ) (wanted : Wanted) (x y : HostHeap) (h : List LargeItem) (r : LargeReply) → IsWanted sources words wanted → IsHostOf x h → makes_one r ≡ true → (makes : Makes x y h (new_of wanted) r)
+pub made_object : (registers : ℕ) (sources words : List ℕ) (wanted : Wanted) (x y : HostHeap) (h : List LargeItem) (r : LargeReply) → registers ≤ REGISTERS → IsWanted registers sources words wanted → IsHostOf x h → makes_one r ≡ true → (makes : Makes x y h (new_of wanted) r)
     → IsNew sources words wanted y (Called (new_of wanted) r ∷ makes.acts.history)
-made_object sources words wanted x y h r is host one makes =
+made_object registers sources words wanted x y h r few is host one makes =
     let made = one_made r one in
     let before = making_host x y h (new_of wanted) r host makes in
     subst (λ q. Replies makes.acts.middle y makes.acts.history (new_of wanted) q → IsNew sources words wanted y (Called (new_of wanted) q ∷ makes.acts.history)) (sym made.1)
-    (λ replies. new_object sources words wanted is makes.acts.middle y makes.acts.history made.0 before replies) makes.acts.replies
+    (λ replies. new_object registers few sources words wanted is makes.acts.middle y makes.acts.history made.0 before replies) makes.acts.replies

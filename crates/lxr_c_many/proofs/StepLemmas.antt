@@ -37,11 +37,17 @@ load_done x y h dest base i r has replies =
     let told : (large_step (large_state h) (large_op.Small (op.Load dest base i))).1 ≡ r = replies.heap.holds.legal.1.reply in
     subst (Replies x y h (large_op.Small (op.Load dest base i))) (sym told ∙ load_replies (large_state h) dest base i has) replies
 
+-- and that to a nil
+pub nil_done : (x y : HostHeap) (h : List LargeItem) (dest : ℕ) (r : LargeReply) → Replies x y h (large_op.Small (op.Nil dest)) r → Replies x y h (large_op.Small (op.Nil dest)) (large_reply.Small reply.Cleared)
+nil_done x y h dest r replies =
+    let told : large_reply.Small reply.Cleared ≡ r = replies.heap.holds.legal.1.reply in
+    subst (Replies x y h (large_op.Small (op.Nil dest))) (sym told) replies
+
 -- a store takes no bytes
 store_rest : (x : HostHeap) (heap : Heap) → record x { heap = heap } ≡ record x { heap = heap; bytes = x.bytes + 0 }
 store_rest x heap = ap (λ n. record x { heap = heap; bytes = n }) (let same : x.bytes ≡ x.bytes + 0 = omega arith in same)
 
--- and that to a store
+-- and what was replied to a store is told
 pub store_done : (x : HostHeap) (heap : Heap) (h : List LargeItem) (base i source : ℕ) (r : LargeReply) → HasReferences (large_state h) base (i + 1) → IsReplied x.heap heap h (large_op.Small (op.Store base i source)) r
     → Replies x (record x { heap = heap }) h (large_op.Small (op.Store base i source)) (large_reply.Small reply.Stored)
 store_done x heap h base i source r has replied =

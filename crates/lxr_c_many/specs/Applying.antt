@@ -1,5 +1,5 @@
 -- A list of operations that are done in turn.
-use Rattle.std.specs.Prelude.{◌≡◌, ◌≢◌, ℕ, ◌+◌, ◌<◌, ◌==◌, ◌⊎◌, if◌then◌else◌, Bool, Option, None, Some, Result, Ok, Err, List, [], ◌∷◌}
+use Rattle.std.specs.Prelude.{◌≡◌, ◌≢◌, ℕ, ◌+◌, ◌==◌, ◌⊎◌, ⊤, if◌then◌else◌, Bool, Option, None, Some, Result, Ok, Err, List, [], ◌∷◌}
 use Rattle.lxr_graph.specs.declared.Reply.TheVariants as reply
 use Rattle.lxr_large_model.specs.declared.LargeOp.{LargeOp}
 use Rattle.lxr_large_model.specs.declared.LargeReply.{LargeReply}
@@ -13,7 +13,7 @@ use Rattle.lxr_c_base.specs.Codes.{code_of, flag, written_over}
 use Rattle.lxr_c_base.specs.Requests as asking
 use Rattle.lxr_c_base.specs.Requests.{IsMaking, IsQuiet, IsStoring, Request}
 use Rattle.lxr_c_heap.specs.declared.host.HostHeap.{HostHeap}
-use Rattle.lxr_c_heap.specs.Hosting.{IsHostOf, Makes, Replies, Stores}
+use Rattle.lxr_c_heap.specs.Hosting.{IsHostOf, Makes, Replies, Stores, registers_in}
 use Rattle.lxr_c_heap.specs.Keeping.{Kept}
 use Rattle.lxr_c_heap.specs.Looking.{SeesNil}
 use Rattle.lxr_c_many.specs.declared.asked.Asked.{Asked}
@@ -35,39 +35,39 @@ as_nil (Ok register) = Ok (asked.IsNil register)
 as_nil (Err e) = Err e
 
 -- so with this number
-abbrev pub nil_asked : ℕ → Result Asked Code
-nil_asked register = as_nil (asking.register_of register)
+abbrev pub nil_asked : ℕ → ℕ → Result Asked Code
+nil_asked registers register = as_nil (asking.register_of registers register)
 
--- what an entry asks for, by the number of the operation, or the code of what is wrong with its numbers
-abbrev pub asked_of : Operation → Result Asked Code
-asked_of e =
-    if e.op == 0 then as_asked asked.Make (asking.new e.a e.b e.c)
-    else (if e.op == 1 then as_asked asked.Reply (asking.load e.a e.b e.c)
-    else (if e.op == 2 then as_asked asked.Store (asking.store e.a e.b e.c)
-    else (if e.op == 3 then as_asked asked.See (asking.get e.a e.b)
-    else (if e.op == 4 then as_asked asked.Reply (asking.put e.a e.b e.word)
-    else (if e.op == 5 then as_asked asked.See (asking.same e.a e.b)
-    else (if e.op == 6 then as_asked asked.Reply (asking.copy e.a e.b)
-    else (if e.op == 7 then as_asked asked.Reply (asking.nil e.a)
-    else (if e.op == 8 then nil_asked e.a
+-- what an entry asks for, by the number of the operation, or the code of what is wrong with its numbers, where there are so many registers
+abbrev pub asked_of : ℕ → Operation → Result Asked Code
+asked_of registers e =
+    if e.op == 0 then as_asked asked.Make (asking.new registers e.a e.b e.c)
+    else (if e.op == 1 then as_asked asked.Reply (asking.load registers e.a e.b e.c)
+    else (if e.op == 2 then as_asked asked.Store (asking.store registers e.a e.b e.c)
+    else (if e.op == 3 then as_asked asked.See (asking.get registers e.a e.b)
+    else (if e.op == 4 then as_asked asked.Reply (asking.put registers e.a e.b e.word)
+    else (if e.op == 5 then as_asked asked.See (asking.same registers e.a e.b)
+    else (if e.op == 6 then as_asked asked.Reply (asking.copy registers e.a e.b)
+    else (if e.op == 7 then as_asked asked.Reply (asking.nil registers e.a)
+    else (if e.op == 8 then nil_asked registers e.a
     else Err code.What))))))))
 
 -- what may be asked for: an operation of its kind, with registers, a shape and indexes as there are
-abbrev pub MayBeAsked : Asked → Type 0
-MayBeAsked (asked.Make o) = IsMaking o
-MayBeAsked (asked.Store o) = IsStoring o
-MayBeAsked (asked.Reply o) = IsQuiet o
-MayBeAsked (asked.See o) = IsLook o
-MayBeAsked (asked.IsNil register) = register < 16
+abbrev pub MayBeAsked : ℕ → Asked → Type 0
+MayBeAsked registers (asked.Make o) = IsMaking registers o
+MayBeAsked registers (asked.Store o) = IsStoring registers o
+MayBeAsked registers (asked.Reply o) = IsQuiet registers o
+MayBeAsked registers (asked.See o) = IsLook o
+MayBeAsked registers (asked.IsNil register) = ⊤
 
 -- an entry asks for something
-abbrev pub Asks : Operation → Type 0
-Asks e = (a : Asked) × (asked_of e ≡ Ok a)
+abbrev pub Asks : ℕ → Operation → Type 0
+Asks registers e = (a : Asked) × (asked_of registers e ≡ Ok a)
 
 -- all entries ask for something; or this is the code of the first that doesn't
-abbrev pub AllAsk : List Operation → Result (Unit {0}) Code → Type 0
-AllAsk [] answer = answer ≡ Ok tt
-AllAsk (e ∷ es) answer = (Asks e × AllAsk es answer) ⊎ ((c : Code) × (asked_of e ≡ Err c) × (answer ≡ Err c))
+abbrev pub AllAsk : ℕ → List Operation → Result (Unit {0}) Code → Type 0
+AllAsk registers [] answer = answer ≡ Ok tt
+AllAsk registers (e ∷ es) answer = (Asks registers e × AllAsk registers es answer) ⊎ ((c : Code) × (asked_of registers e ≡ Err c) × (answer ≡ Err c))
 
 -- ---- one operation
 
@@ -91,7 +91,7 @@ Performs x h (asked.IsNil register) y k told = (nil : Bool) × SeesNil x h regis
 
 -- so was what an entry asks for
 abbrev pub PerformsEntry : HostHeap → List LargeItem → Operation → HostHeap → List LargeItem → Told → Type 0
-PerformsEntry x h e y k told = (a : Asked) × (asked_of e ≡ Ok a) × Performs x h a y k told
+PerformsEntry x h e y k told = (a : Asked) × (asked_of (registers_in x) e ≡ Ok a) × Performs x h a y k told
 
 -- the entry with the word that its operation told
 abbrev pub with_told : Operation → Told → Operation
@@ -117,9 +117,9 @@ all_told (e ∷ es) (t ∷ ts) = with_told e t ∷ all_told es ts
 -- that were told.
 abbrev pub AppliesAll : Kept → Kept → List Operation → List Operation → Result Applied Code → Type 0
 AppliesAll None after entries new answer = (answer ≡ Err code.NoHeap) × (after ≡ None) × (new ≡ entries)
-AppliesAll (Some x) after entries new (Err c) = AllAsk entries (Err c) × (after ≡ Some x) × (new ≡ entries)
+AppliesAll (Some x) after entries new (Err c) = AllAsk (registers_in x) entries (Err c) × (after ≡ Some x) × (new ≡ entries)
 AppliesAll (Some x) after entries new (Ok applied) =
-    AllAsk entries (Ok tt) × (y : HostHeap) × (told : List Told) × (after ≡ Some y) × (new ≡ all_told entries told)
+    AllAsk (registers_in x) entries (Ok tt) × (y : HostHeap) × (told : List Told) × (after ≡ Some y) × (new ≡ all_told entries told)
     × ((h : List LargeItem) → IsHostOf x h → (k : List LargeItem) × Applies x h entries y k told applied)
 
 -- ---- what the program gets

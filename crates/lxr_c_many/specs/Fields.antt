@@ -6,7 +6,6 @@ use Rattle.lxr_graph.specs.declared.Op.TheVariants as op
 use Rattle.lxr_graph.specs.declared.Reply.TheVariants as reply
 use Rattle.lxr_graph.specs.State.{object_at, refs_of, register_at, values_of}
 use Rattle.lxr_large_model.specs.declared.LargeOp.TheVariants as large_op
-use Rattle.lxr_large_model.specs.declared.LargeReply.{LargeReply}
 use Rattle.lxr_large_model.specs.declared.LargeReply.TheVariants as large_reply
 use Rattle.lxr_large_model.specs.History.{LargeItem, Called}
 use Rattle.lxr_large_model.specs.State.{LargeState}
@@ -39,11 +38,6 @@ comes_to (Some fields) first count = within (length fields) first count
 abbrev pub word_at : LargeState → ℕ → ℕ → ℕ
 word_at s base i = slice_index_or (unwrap_or (words_in s base) []) i 0
 
--- the data word that a reply tells, if it does
-abbrev pub told_word : LargeReply → Option ℕ
-told_word (large_reply.Small (reply.Got v)) = Some v
-told_word r = None
-
 -- what reference i of the object that a register holds refers to
 abbrev pub reference_at : LargeState → ℕ → ℕ → Option Name
 reference_at s base i = slice_index_or (unwrap_or (references_in s base) []) i None
@@ -64,18 +58,18 @@ load_of s base i dest = Called (large_op.Small (op.Load dest base i)) (large_rep
 
 -- ---- registers
 
--- these numbers are those of registers
-abbrev pub are_registers : List ℕ → Bool
-are_registers rs = list_all (λ r. nat_lt r 16) rs
+-- these numbers are those of registers, where there are so many
+abbrev pub are_registers : ℕ → List ℕ → Bool
+are_registers registers rs = list_all (λ r. nat_lt r registers) rs
 
 -- the register that stores go to, where those that they are from are registers too
-abbrev pub base_of_stores : ℕ → List ℕ → Result ℕ Code
-base_of_stores base sources = if are_registers sources then register_of base else Err code.Register
+abbrev pub base_of_stores : ℕ → ℕ → List ℕ → Result ℕ Code
+base_of_stores registers base sources = if are_registers registers sources then register_of registers base else Err code.Register
 
 -- none of these but the last is the base: else the loads behind it would be from another object
 abbrev pub leave_base : ℕ → List ℕ → Bool
 leave_base base targets = list_all (λ r. not (r == base)) (take (length targets - 1) targets)
 
 -- the register that loads are from, where those that they go to are registers too, and leave it what it holds to the end
-abbrev pub base_of_loads : ℕ → List ℕ → Result ℕ Code
-base_of_loads base targets = if are_registers targets && leave_base base targets then register_of base else Err code.Register
+abbrev pub base_of_loads : ℕ → ℕ → List ℕ → Result ℕ Code
+base_of_loads registers base targets = if are_registers registers targets && leave_base base targets then register_of registers base else Err code.Register

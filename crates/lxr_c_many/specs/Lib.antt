@@ -5,3 +5,4 @@ pub mod Steps
 pub mod Calling
 pub mod Making
 pub mod Applying
+pub mod Clearing

@@ -11,30 +11,25 @@ use Rattle.lxr_large_model.specs.declared.LargeReply.TheVariants as large_reply
 use Rattle.lxr_large_model.specs.History.{LargeItem, Called}
 use Rattle.lxr_c_base.specs.declared.codes.Code.{Code}
 use Rattle.lxr_c_base.specs.declared.codes.Code.TheVariants as code
-use Rattle.lxr_c_base.specs.Requests.{register_of, size_of}
+use Rattle.lxr_c_base.specs.Requests.{register_of, size_of, with_number}
 use Rattle.lxr_c_heap.specs.declared.host.HostHeap.{HostHeap}
 use Rattle.lxr_c_heap.specs.Hosting.{Makes}
 use Rattle.lxr_c_many.specs.declared.making.Wanted.{Wanted}
 use Rattle.lxr_c_many.specs.Fields.{are_registers, put_of, store_of}
 use Rattle.lxr_c_many.specs.Following.{Follows, newest_first}
 
--- these are registers, and none is that of the new object
-abbrev pub are_sources : ℕ → List ℕ → Bool
-are_sources dest sources = list_all (λ s. nat_lt s 16 && not (s == dest)) sources
-
--- what follows of a number that fits, or the code of what is wrong with it
-abbrev pub with_number : Result ℕ Code → (ℕ → Result Wanted Code) → Result Wanted Code
-with_number (Ok n) next = next n
-with_number (Err e) next = Err e
+-- these are registers, where there are so many, and none is that of the new object
+abbrev pub are_sources : ℕ → ℕ → List ℕ → Bool
+are_sources registers dest sources = list_all (λ s. nat_lt s registers && not (s == dest)) sources
 
 -- the object that is wanted in a register, with a reference for each source and a data word for each of these
-abbrev pub object_of : ℕ → List ℕ → List ℕ → Result Wanted Code
-object_of dest sources words =
-    with_number (register_of dest) (λ d. with_number (size_of (length sources)) (λ r. with_number (size_of (length words)) (λ w. Ok (record { dest = d; shape = record { refs = r; values = w } }))))
+abbrev pub object_of : ℕ → ℕ → List ℕ → List ℕ → Result Wanted Code
+object_of registers dest sources words =
+    with_number (register_of registers dest) (λ d. with_number (size_of (length sources)) (λ r. with_number (size_of (length words)) (λ w. Ok (record { dest = d; shape = record { refs = r; values = w } }))))
 
 -- the object that is wanted, or the code of what is wrong with the numbers: registers first, then sizes
-abbrev pub wanted_of : ℕ → List ℕ → List ℕ → Result Wanted Code
-wanted_of dest sources words = if are_sources dest sources then object_of dest sources words else Err code.Register
+abbrev pub wanted_of : ℕ → ℕ → List ℕ → List ℕ → Result Wanted Code
+wanted_of registers dest sources words = if are_sources registers dest sources then object_of registers dest sources words else Err code.Register
 
 -- the operation that makes it
 abbrev pub new_of : Wanted → LargeOp
@@ -57,10 +52,10 @@ pub record MakesWith (sources words : List ℕ) (x y : HostHeap) (h : List Large
   pub makes : Makes x made h (new_of wanted) r
   pub fills : Fills wanted sources words made (Called (new_of wanted) r ∷ makes.acts.history) y r
 
--- an object is wanted as its register, its references and its words allow it
-pub record IsWanted (sources words : List ℕ) (wanted : Wanted) : Type 0 where
-  pub dest : wanted.dest < 16
+-- an object is wanted as so many registers, its references and its words allow it
+pub record IsWanted (registers : ℕ) (sources words : List ℕ) (wanted : Wanted) : Type 0 where
+  pub dest : wanted.dest < registers
   pub fits : FitsShape wanted.shape
   pub refs : wanted.shape.refs ≡ length sources
   pub values : wanted.shape.values ≡ length words
-  pub from : IsTrue (are_registers sources)
+  pub from : IsTrue (are_registers registers sources)

@@ -2,7 +2,7 @@
 ghost use Rattle.std.specs.Prelude.{◌≡◌, Some, Ok, List};
 ghost use Rattle.lxr_large_model.specs.History.{LargeItem};
 ghost use Rattle.lxr_c_base.specs.Codes.{flag as is_flag};
-ghost use Rattle.lxr_c_heap.specs.Hosting.{IsHostOf, IsServing};
+ghost use Rattle.lxr_c_heap.specs.Hosting.{IsHostOf, IsServing, registers_in};
 ghost use Rattle.lxr_c_many.specs.declared.applying.Told.{Told as ToldOf};
 ghost use Rattle.lxr_c_many.specs.Applying as applying;
 ghost use Rattle.lxr_c_many.specs.Applying.{AllAsk, Applies, AppliesAll, Asks, MayBeAsked, Performs, PerformsEntry, all_told, with_told};
@@ -37,7 +37,7 @@ fn flag(test: bool) -> u64
 
 /// The word that a reply tells, if it does.
 #[inline(always)]
-fn word_of(reply: LargeReply) -> Option<u64>
+pub(crate) fn word_of(reply: LargeReply) -> Option<u64>
     ensures { result ≡ applying.word_of reply }
 {
     match reply {
@@ -62,8 +62,9 @@ fn told_by(reply: LargeReply) -> Told
 #[inline(always)]
 fn perform(heap: &mut HostHeap, asked: Asked) -> Told
     requires serving { IsServing heap.old }
-    requires asked { MayBeAsked asked }
+    requires asked { MayBeAsked (registers_in heap.old) asked }
     ensures performs { (h : List LargeItem) → IsHostOf heap.old h → (k : List LargeItem) × Performs heap.old h asked heap.new k result }
+    ensures registers { registers_in heap.new ≡ registers_in heap.old }
     ensures serving { IsServing heap.new }
 {
     match asked {
@@ -82,12 +83,13 @@ fn perform(heap: &mut HostHeap, asked: Asked) -> Told
 #[inline(always)]
 fn perform_at(heap: &mut HostHeap, entry: &mut Operation) -> Code
     requires serving { IsServing heap.old }
-    requires asks { Asks entry.old }
+    requires asks { Asks (registers_in heap.old) entry.old }
     ensures performs { (told : ToldOf) × (result ≡ told.code) × (entry.new ≡ with_told entry.old told)
         × ((h : List LargeItem) → IsHostOf heap.old h → (k : List LargeItem) × PerformsEntry heap.old h entry.old heap.new k told) }
+    ensures registers { registers_in heap.new ≡ registers_in heap.old }
     ensures serving { IsServing heap.new }
 {
-    match asked_of(*entry) {
+    match asked_of(heap.heap.registers(), *entry) {
         Err(_) => unreachable!(),
         Ok(asked) => {
             let told = perform(heap, asked);
@@ -102,9 +104,10 @@ fn perform_at(heap: &mut HostHeap, entry: &mut Operation) -> Code
 /// Does what entries ask for in turn, up to the first that isn't done with success.
 fn perform_all(heap: &mut HostHeap, entries: &mut [Operation]) -> Applied
     requires serving { IsServing heap.old }
-    requires ask { AllAsk entries.old (Ok tt) }
+    requires ask { AllAsk (registers_in heap.old) entries.old (Ok tt) }
     ensures applies { (told : List ToldOf) × (entries.new ≡ all_told entries.old told)
         × ((h : List LargeItem) → IsHostOf heap.old h → (k : List LargeItem) × Applies heap.old h entries.old heap.new k told result) }
+    ensures registers { registers_in heap.new ≡ registers_in heap.old }
     ensures serving { IsServing heap.new }
 {
     for i in 0..entries.len() {
@@ -124,6 +127,6 @@ pub fn apply(handle: &mut Handle, entries: &mut [Operation]) -> Result<Applied, 
     ensures { AppliesAll handle.old.block.value handle.new.block.value entries.old entries.new result }
 {
     handle.found()?;
-    look_over(entries)?;
+    look_over(handle.registers(), entries)?;
     Ok(perform_all(handle.block.lend(), entries))
 }

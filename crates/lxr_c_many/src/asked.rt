@@ -1,10 +1,8 @@
 //! What an entry of a list of operations asks for.
-ghost use Rattle.std.specs.Prelude.{◌≡◌, ◌<◌, IfOk};
-ghost use Rattle.lxr_heap.specs.Looking.{IsLook};
-ghost use Rattle.lxr_c_base.specs.Requests.{IsMaking, IsQuiet, IsStoring};
-ghost use Rattle.lxr_c_many.specs.declared.asked.Asked.TheVariants as asked;
+ghost use Rattle.std.specs.Prelude.{◌≡◌, ◌≤◌, IfOk};
+ghost use Rattle.lxr_layout.specs.declared.TheConstants.{REGISTERS};
 ghost use Rattle.lxr_c_many.specs.Applying as applying;
-ghost use Rattle.lxr_c_many.specs.Applying.{AllAsk, MayBeAsked, as_asked};
+ghost use Rattle.lxr_c_many.specs.Applying.{AllAsk, MayBeAsked};
 
 use lxr_c_base::Code;
 use lxr_c_base::requests::{self, register_of};
@@ -37,97 +35,35 @@ pub enum Asked {
     IsNil(u8),
 }
 
-/// An object is asked for.
+/// What an entry asks for, or what is wrong with its numbers, where there are so many registers.
 #[inline(always)]
-fn make(request: Result<LargeOp, Code>) -> Result<Asked, Code>
-    requires { IfOk request IsMaking }
-    ensures asked { result ≡ as_asked asked.Make request }
-    ensures may { IfOk result MayBeAsked }
-{
-    match request {
-        Ok(op) => Ok(Asked::Make(op)),
-        Err(code) => Err(code),
-    }
-}
-
-/// A store is asked for.
-#[inline(always)]
-fn store(request: Result<LargeOp, Code>) -> Result<Asked, Code>
-    requires { IfOk request IsStoring }
-    ensures asked { result ≡ as_asked asked.Store request }
-    ensures may { IfOk result MayBeAsked }
-{
-    match request {
-        Ok(op) => Ok(Asked::Store(op)),
-        Err(code) => Err(code),
-    }
-}
-
-/// An operation is asked for that makes no object and stores no reference.
-#[inline(always)]
-fn reply(request: Result<LargeOp, Code>) -> Result<Asked, Code>
-    requires { IfOk request IsQuiet }
-    ensures asked { result ≡ as_asked asked.Reply request }
-    ensures may { IfOk result MayBeAsked }
-{
-    match request {
-        Ok(op) => Ok(Asked::Reply(op)),
-        Err(code) => Err(code),
-    }
-}
-
-/// A look is asked for.
-#[inline(always)]
-fn see(request: Result<LargeOp, Code>) -> Result<Asked, Code>
-    requires { IfOk request IsLook }
-    ensures asked { result ≡ as_asked asked.See request }
-    ensures may { IfOk result MayBeAsked }
-{
-    match request {
-        Ok(op) => Ok(Asked::See(op)),
-        Err(code) => Err(code),
-    }
-}
-
-/// It is asked whether a register is nil.
-#[inline(always)]
-fn is_nil(register: u32) -> Result<Asked, Code>
-    ensures asked { result ≡ applying.nil_asked register }
-    ensures may { IfOk result MayBeAsked }
-{
-    match register_of(register) {
-        Ok(register) => Ok(Asked::IsNil(register)),
-        Err(code) => Err(code),
-    }
-}
-
-/// What an entry asks for, or what is wrong with its numbers.
-#[inline(always)]
-pub(crate) fn asked_of(entry: Operation) -> Result<Asked, Code>
-    ensures asked { result ≡ applying.asked_of entry }
-    ensures may { IfOk result MayBeAsked }
+pub(crate) fn asked_of(registers: u16, entry: Operation) -> Result<Asked, Code>
+    requires { registers ≤ REGISTERS }
+    ensures asked { result ≡ applying.asked_of registers entry }
+    ensures may { IfOk result (MayBeAsked registers) }
 {
     let Operation { op, a, b, c, word } = entry;
     match op {
-        0 => make(requests::new(a, b, c)),
-        1 => reply(requests::load(a, b, c)),
-        2 => store(requests::set_reference(a, b, c)),
-        3 => see(requests::get(a, b)),
-        4 => reply(requests::put(a, b, word)),
-        5 => see(requests::same(a, b)),
-        6 => reply(requests::copy(a, b)),
-        7 => reply(requests::nil(a)),
-        8 => is_nil(a),
+        0 => requests::new(registers, a, b, c).map(Asked::Make),
+        1 => requests::load(registers, a, b, c).map(Asked::Reply),
+        2 => requests::set_reference(registers, a, b, c).map(Asked::Store),
+        3 => requests::get(registers, a, b).map(Asked::See),
+        4 => requests::put(registers, a, b, word).map(Asked::Reply),
+        5 => requests::same(registers, a, b).map(Asked::See),
+        6 => requests::copy(registers, a, b).map(Asked::Reply),
+        7 => requests::nil(registers, a).map(Asked::Reply),
+        8 => register_of(registers, a).map(Asked::IsNil),
         _ => Err(Code::What),
     }
 }
 
 /// Whether all entries ask for something; else what is wrong with the first that doesn't.
-pub(crate) fn look_over(entries: &[Operation]) -> Result<(), Code>
-    ensures { AllAsk entries.now result }
+pub(crate) fn look_over(registers: u16, entries: &[Operation]) -> Result<(), Code>
+    requires { registers ≤ REGISTERS }
+    ensures { AllAsk registers entries.now result }
 {
     for entry in entries {
-        match asked_of(*entry) {
+        match asked_of(registers, *entry) {
             Err(code) => return Err(code),
             Ok(_) => {}
         }

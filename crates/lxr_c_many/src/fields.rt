@@ -1,5 +1,6 @@
 //! Which fields of an object a call means, and whether they are all there.
-ghost use Rattle.std.specs.Prelude.{◌≡◌, ◌+◌, ◌<◌, ◌^◌, nat_le, IfOk, IsTrue, List, if◌then◌else◌};
+ghost use Rattle.std.specs.Prelude.{◌≡◌, ◌+◌, ◌<◌, ◌≤◌, ◌^◌, nat_le, IfOk, IsTrue, List};
+ghost use Rattle.lxr_layout.specs.declared.TheConstants.{REGISTERS};
 ghost use Rattle.lxr_large_model.specs.History.{LargeItem, large_state};
 ghost use Rattle.lxr_heap.specs.declared.bulk.BodyReply.TheVariants as body_reply;
 ghost use Rattle.lxr_heap.specs.Holding.{IsHeapOf};
@@ -21,63 +22,51 @@ fn has_all(most: u16, first: u32, count: usize) -> bool
     first <= most && count <= most - first
 }
 
-/// What a call comes to, by whether all fields are there.
-#[inline(always)]
-fn reply_of(found: bool) -> BodyReply
-    ensures { result ≡ (if found then body_reply.Done else body_reply.Range) }
-{
-    if found {
-        BodyReply::Done
-    } else {
-        BodyReply::Range
-    }
-}
-
 /// Whether what `base` holds has so many data words from `first` on.
 #[inline(always)]
 pub(crate) fn find_words(heap: &LargeHeap, base: u8, first: u32, count: usize) -> BodyReply
-    requires { base < 16 }
     ensures found { (h : List LargeItem) → IsHeapOf heap.now h → result ≡ comes_to (words_in (large_state h) base) first count }
     ensures few { result ≡ body_reply.Done → first + count < 2 ^ 16 }
 {
     match heap.shape(base) {
         None => BodyReply::Bad,
-        Some((shape, _)) => reply_of(has_all(shape.values, first, count)),
+        Some((shape, _)) => BodyReply::of(has_all(shape.values, first, count)),
     }
 }
 
 /// Whether what `base` holds has so many references from `first` on.
 #[inline(always)]
 pub(crate) fn find_references(heap: &LargeHeap, base: u8, first: u32, count: usize) -> BodyReply
-    requires { base < 16 }
     ensures found { (h : List LargeItem) → IsHeapOf heap.now h → result ≡ comes_to (references_in (large_state h) base) first count }
     ensures few { result ≡ body_reply.Done → first + count < 2 ^ 16 }
 {
     match heap.shape(base) {
         None => BodyReply::Bad,
-        Some((shape, _)) => reply_of(has_all(shape.refs, first, count)),
+        Some((shape, _)) => BodyReply::of(has_all(shape.refs, first, count)),
     }
 }
 
 /// Whether these are registers.
 #[inline(always)]
-fn are_registers(registers: &[u32]) -> bool
-    ensures { result ≡ fields.are_registers registers.now }
+fn are_registers(registers: u16, numbers: &[u32]) -> bool
+    ensures { result ≡ fields.are_registers registers numbers.now }
 {
-    registers.iter().all(|register| *register < 16)
+    let registers = u32::from(registers);
+    numbers.iter().all(|number| *number < registers)
 }
 
 /// The base of stores from these registers.
 #[inline(always)]
-pub(crate) fn base_of_stores(base: u32, sources: &[u32]) -> Result<u8, Code>
-    ensures base { result ≡ fields.base_of_stores base sources.now }
-    ensures small { IfOk result (λ b. b < 16) }
-    ensures sources { IfOk result (λ b. IsTrue (fields.are_registers sources.now)) }
+pub(crate) fn base_of_stores(registers: u16, base: u32, sources: &[u32]) -> Result<u8, Code>
+    requires { registers ≤ REGISTERS }
+    ensures base { result ≡ fields.base_of_stores registers base sources.now }
+    ensures small { IfOk result (λ b. b < registers) }
+    ensures sources { IfOk result (λ b. IsTrue (fields.are_registers registers sources.now)) }
 {
-    if !are_registers(sources) {
+    if !are_registers(registers, sources) {
         return Err(Code::Register);
     }
-    register_of(base)
+    register_of(registers, base)
 }
 
 /// Whether none of these registers but the last is the base.
@@ -91,17 +80,18 @@ fn leave_base(base: u32, targets: &[u32]) -> bool
 
 /// The base of loads to these registers.
 #[inline(always)]
-pub(crate) fn base_of_loads(base: u32, targets: &[u32]) -> Result<u8, Code>
-    ensures base { result ≡ fields.base_of_loads base targets.now }
-    ensures small { IfOk result (λ b. b < 16) }
-    ensures targets { IfOk result (λ b. IsTrue (fields.are_registers targets.now)) }
+pub(crate) fn base_of_loads(registers: u16, base: u32, targets: &[u32]) -> Result<u8, Code>
+    requires { registers ≤ REGISTERS }
+    ensures base { result ≡ fields.base_of_loads registers base targets.now }
+    ensures small { IfOk result (λ b. b < registers) }
+    ensures targets { IfOk result (λ b. IsTrue (fields.are_registers registers targets.now)) }
     ensures apart { IfOk result (λ b. IsTrue (fields.leave_base b targets.now)) }
 {
-    if !are_registers(targets) {
+    if !are_registers(registers, targets) {
         return Err(Code::Register);
     }
     if !leave_base(base, targets) {
         return Err(Code::Register);
     }
-    register_of(base)
+    register_of(registers, base)
 }

@@ -6,7 +6,7 @@ ghost use Rattle.lxr_image.specs.Spaces.{IsSpace, tables_of};
 ghost use Rattle.lxr_large_model.specs.History.{LargeItem, large_state};
 ghost use Rattle.lxr_heap.specs.Holding.{IsHeapOf};
 ghost use Rattle.lxr_heap.specs.Looking.{one_if};
-ghost use Rattle.lxr_c_heap.specs.Hosting.{IsHostOf, IsServing};
+ghost use Rattle.lxr_c_heap.specs.Hosting.{IsHostOf, IsServing, registers_in};
 ghost use Rattle.lxr_c_many.specs.Recording.{LogIsShort, unlogged_bits};
 ghost use Rattle.lxr_c_many.specs.Steps.{HasReferences, PausesForStores};
 
@@ -41,7 +41,6 @@ fn count_to_record(space: &Space, place: Place, first: u16, count: u16) -> u32
 
 /// Whether the log has no room for what stores to these references record.
 fn log_is_short(heap: &LargeHeap, base: u8, first: u16, count: u16) -> bool
-    requires base { base < 16 }
     requires few { first + count < 2 ^ 16 }
     requires there { ∥ ((h : List LargeItem) × IsHeapOf heap.now h × HasReferences (large_state h) base (first + count)) ∥₁ }
     ensures { (h : List LargeItem) → IsHeapOf heap.now h → HasReferences (large_state h) base (first + count) → IsTrue result ↔ LogIsShort h base first count }
@@ -56,10 +55,10 @@ fn log_is_short(heap: &LargeHeap, base: u8, first: u16, count: u16) -> bool
 /// Settles before stores to these references, and makes a plain pause where the log has no room for what they record.
 pub(crate) fn pause_for_stores(heap: &mut HostHeap, base: u8, first: u16, count: u16)
     requires serving { IsServing heap.old }
-    requires base { base < 16 }
     requires few { first + count < 2 ^ 16 }
     requires there { (h : List LargeItem) → IsHostOf heap.old h → HasReferences (large_state h) base (first + count) }
     ensures pauses { (h : List LargeItem) → IsHostOf heap.old h → PausesForStores base first count heap.old heap.new h }
+    ensures registers { registers_in heap.new ≡ registers_in heap.old }
     ensures serving { IsServing heap.new }
 {
     heap.settle(ENDS);

@@ -1,8 +1,9 @@
 //! A new object with all that it holds.
-ghost use Rattle.std.specs.Prelude.{◌≡◌, IfOk, List};
+ghost use Rattle.std.specs.Prelude.{◌≡◌, ◌≤◌, IfOk, List};
+ghost use Rattle.lxr_layout.specs.declared.TheConstants.{REGISTERS};
 ghost use Rattle.lxr_large_model.specs.History.{LargeItem};
-ghost use Rattle.lxr_c_base.specs.Requests.{size_of};
-ghost use Rattle.lxr_c_heap.specs.Hosting.{IsHostOf, IsServing};
+ghost use Rattle.lxr_c_heap.specs.Hosting.{IsHostOf, IsServing, registers_in};
+ghost use Rattle.lxr_c_heap.specs.Keeping.{registers_kept};
 ghost use Rattle.lxr_c_many.specs.Calling.{Does};
 ghost use Rattle.lxr_c_many.specs.Making as making;
 ghost use Rattle.lxr_c_many.specs.Making.{IsWanted, MakesWith};
@@ -10,11 +11,11 @@ ghost use Rattle.lxr_c_many.specs.Making.{IsWanted, MakesWith};
 use crate::references::store_all;
 use crate::words::write_all;
 use lxr_c_base::Code;
-use lxr_c_base::requests::register_of;
+use lxr_c_base::requests::{fields_of, register_of};
 use lxr_c_heap::{Handle, HostHeap};
 use lxr_graph::{Op, Reply};
 use lxr_large_model::{LargeOp, LargeReply};
-use lxr_layout::{MOST_FIELDS, Shape};
+use lxr_layout::Shape;
 
 /// What is wanted of a new object: its register and its shape.
 #[derive(Clone, Copy, Debug, PartialEq, Eq)]
@@ -23,29 +24,22 @@ pub struct Wanted {
     pub shape: Shape,
 }
 
-/// So many references, or data words, as a shape has them.
-fn fields_of(count: usize) -> Result<u16, Code>
-    ensures { result ≡ size_of count }
-{
-    if count <= usize::from(MOST_FIELDS) {
-        Ok(count as u16)
-    } else {
-        Err(Code::Size)
-    }
-}
-
 /// Whether these are registers other than `dest`.
-fn are_sources(dest: u32, sources: &[u32]) -> bool
-    ensures { result ≡ making.are_sources dest sources.now }
+fn are_sources(registers: u16, dest: u32, sources: &[u32]) -> bool
+    ensures { result ≡ making.are_sources registers dest sources.now }
 {
-    sources.iter().all(|source| *source < 16 && *source != dest)
+    let registers = u32::from(registers);
+    sources
+        .iter()
+        .all(|source| *source < registers && *source != dest)
 }
 
 /// The object that is wanted in `dest`, with a reference for each of the sources and these data words.
-fn object_of(dest: u32, sources: &[u32], words: &[u64]) -> Result<Wanted, Code>
-    ensures { result ≡ making.object_of dest sources.now words.now }
+fn object_of(registers: u16, dest: u32, sources: &[u32], words: &[u64]) -> Result<Wanted, Code>
+    requires { registers ≤ REGISTERS }
+    ensures { result ≡ making.object_of registers dest sources.now words.now }
 {
-    let dest = register_of(dest)?;
+    let dest = register_of(registers, dest)?;
     let refs = fields_of(sources.len())?;
     let values = fields_of(words.len())?;
     Ok(Wanted {
@@ -55,14 +49,15 @@ fn object_of(dest: u32, sources: &[u32], words: &[u64]) -> Result<Wanted, Code>
 }
 
 /// The object that is wanted, or what is wrong with the numbers.
-fn wanted_of(dest: u32, sources: &[u32], words: &[u64]) -> Result<Wanted, Code>
-    ensures wanted { result ≡ making.wanted_of dest sources.now words.now }
-    ensures fits { IfOk result (IsWanted sources.now words.now) }
+fn wanted_of(registers: u16, dest: u32, sources: &[u32], words: &[u64]) -> Result<Wanted, Code>
+    requires { registers ≤ REGISTERS }
+    ensures wanted { result ≡ making.wanted_of registers dest sources.now words.now }
+    ensures fits { IfOk result (IsWanted registers sources.now words.now) }
 {
-    if !are_sources(dest, sources) {
+    if !are_sources(registers, dest, sources) {
         return Err(Code::Register);
     }
-    object_of(dest, sources, words)
+    object_of(registers, dest, sources, words)
 }
 
 /// Whether a reply tells of an object that was made.
@@ -78,8 +73,9 @@ fn makes_one(reply: LargeReply) -> bool
 /// Makes an object and fills it.
 fn make(heap: &mut HostHeap, wanted: Wanted, sources: &[u32], words: &[u64]) -> LargeReply
     requires serving { IsServing heap.old }
-    requires wanted { IsWanted sources.now words.now wanted }
+    requires wanted { IsWanted (registers_in heap.old) sources.now words.now wanted }
     ensures makes { (h : List LargeItem) → IsHostOf heap.old h → MakesWith sources.now words.now heap.old heap.new h wanted result }
+    ensures registers { registers_in heap.new ≡ registers_in heap.old }
     ensures serving { IsServing heap.new }
 {
     let Wanted { dest, shape } = wanted;
@@ -99,9 +95,9 @@ pub fn new_with(
     sources: &[u32],
     words: &[u64],
 ) -> Result<LargeReply, Code>
-    ensures { Does (MakesWith sources.now words.now) handle.old.block.value handle.new.block.value (making.wanted_of dest sources.now words.now) result }
+    ensures { Does (MakesWith sources.now words.now) handle.old.block.value handle.new.block.value (making.wanted_of (registers_kept handle.old.block.value) dest sources.now words.now) result }
 {
     handle.found()?;
-    let wanted = wanted_of(dest, sources, words)?;
+    let wanted = wanted_of(handle.registers(), dest, sources, words)?;
     Ok(make(handle.block.lend(), wanted, sources, words))
 }

@@ -2,7 +2,8 @@
 ghost use Rattle.std.specs.Prelude.{◌≡◌, ◌+◌, ◌<◌, ◌^◌, IsTrue, List, length};
 ghost use Rattle.lxr_large_model.specs.History.{LargeItem, large_state};
 ghost use Rattle.lxr_heap.specs.Holding.{IsHeapOf};
-ghost use Rattle.lxr_c_heap.specs.Hosting.{IsHostOf, IsServing};
+ghost use Rattle.lxr_c_heap.specs.Hosting.{IsHostOf, IsServing, registers_in};
+ghost use Rattle.lxr_c_heap.specs.Keeping.{registers_kept};
 ghost use Rattle.lxr_c_many.specs.Calling.{Does, LoadsReferences, StoresReferences};
 ghost use Rattle.lxr_c_many.specs.Fields as fields;
 ghost use Rattle.lxr_c_many.specs.Fields.{are_registers, leave_base, load_of, store_of};
@@ -20,12 +21,13 @@ use lxr_heap::BodyReply;
 #[inline(always)]
 fn load_all(heap: &mut HostHeap, base: u8, first: u16, targets: &[u32])
     requires serving { IsServing heap.old }
-    requires base { base < 16 }
+    requires base { base < registers_in heap.old }
     requires few { first + length targets.now < 2 ^ 16 }
-    requires targets { IsTrue (are_registers targets.now) }
+    requires targets { IsTrue (are_registers (registers_in heap.old) targets.now) }
     requires apart { IsTrue (leave_base base targets.now) }
     ensures follows { (h : List LargeItem) → IsHeapOf heap.old.heap h → HasReferences (large_state h) base (first + length targets.now)
         → Follows heap.old h heap.new (newest_first (load_of (large_state h) base) first targets.now) }
+    ensures registers { registers_in heap.new ≡ registers_in heap.old }
     ensures serving { IsServing heap.new }
 {
     for (i, target) in targets.iter().enumerate() {
@@ -37,12 +39,13 @@ fn load_all(heap: &mut HostHeap, base: u8, first: u16, targets: &[u32])
 #[inline(always)]
 pub(crate) fn store_all(heap: &mut HostHeap, base: u8, first: u16, sources: &[u32])
     requires serving { IsServing heap.old }
-    requires base { base < 16 }
+    requires base { base < registers_in heap.old }
     requires few { first + length sources.now < 2 ^ 16 }
-    requires sources { IsTrue (are_registers sources.now) }
+    requires sources { IsTrue (are_registers (registers_in heap.old) sources.now) }
     requires ready { ∥ ((h : List LargeItem) × IsHeapOf heap.old.heap h × MayBeStored h base first (length sources.now)) ∥₁ }
     ensures follows { (h : List LargeItem) → IsHeapOf heap.old.heap h → MayBeStored h base first (length sources.now)
         → Follows heap.old h heap.new (newest_first (store_of base) first sources.now) }
+    ensures registers { registers_in heap.new ≡ registers_in heap.old }
     ensures serving { IsServing heap.new }
 {
     for (i, source) in sources.iter().enumerate() {
@@ -54,10 +57,11 @@ pub(crate) fn store_all(heap: &mut HostHeap, base: u8, first: u16, sources: &[u3
 #[inline(always)]
 fn load(heap: &mut HostHeap, base: u8, first: u32, targets: &[u32]) -> BodyReply
     requires serving { IsServing heap.old }
-    requires base { base < 16 }
-    requires targets { IsTrue (are_registers targets.now) }
+    requires base { base < registers_in heap.old }
+    requires targets { IsTrue (are_registers (registers_in heap.old) targets.now) }
     requires apart { IsTrue (leave_base base targets.now) }
     ensures loads { (h : List LargeItem) → IsHeapOf heap.old.heap h → LoadsReferences first targets.now heap.old heap.new h base result }
+    ensures registers { registers_in heap.new ≡ registers_in heap.old }
     ensures serving { IsServing heap.new }
 {
     match find_references(&heap.heap, base, first, targets.len()) {
@@ -73,9 +77,10 @@ fn load(heap: &mut HostHeap, base: u8, first: u32, targets: &[u32]) -> BodyReply
 #[inline(always)]
 fn store(heap: &mut HostHeap, base: u8, first: u32, sources: &[u32]) -> BodyReply
     requires serving { IsServing heap.old }
-    requires base { base < 16 }
-    requires sources { IsTrue (are_registers sources.now) }
+    requires base { base < registers_in heap.old }
+    requires sources { IsTrue (are_registers (registers_in heap.old) sources.now) }
     ensures stores { (h : List LargeItem) → IsHostOf heap.old h → StoresReferences first sources.now heap.old heap.new h base result }
+    ensures registers { registers_in heap.new ≡ registers_in heap.old }
     ensures serving { IsServing heap.new }
 {
     match find_references(&heap.heap, base, first, sources.len()) {
@@ -98,10 +103,10 @@ pub fn load_many(
     first: u32,
     targets: &[u32],
 ) -> Result<BodyReply, Code>
-    ensures { Does (LoadsReferences first targets.now) handle.old.block.value handle.new.block.value (fields.base_of_loads base targets.now) result }
+    ensures { Does (LoadsReferences first targets.now) handle.old.block.value handle.new.block.value (fields.base_of_loads (registers_kept handle.old.block.value) base targets.now) result }
 {
     handle.found()?;
-    let base = base_of_loads(base, targets)?;
+    let base = base_of_loads(handle.registers(), base, targets)?;
     Ok(load(handle.block.lend(), base, first, targets))
 }
 
@@ -112,9 +117,9 @@ pub fn store_many(
     first: u32,
     sources: &[u32],
 ) -> Result<BodyReply, Code>
-    ensures { Does (StoresReferences first sources.now) handle.old.block.value handle.new.block.value (fields.base_of_stores base sources.now) result }
+    ensures { Does (StoresReferences first sources.now) handle.old.block.value handle.new.block.value (fields.base_of_stores (registers_kept handle.old.block.value) base sources.now) result }
 {
     handle.found()?;
-    let base = base_of_stores(base, sources)?;
+    let base = base_of_stores(handle.registers(), base, sources)?;
     Ok(store(handle.block.lend(), base, first, sources))
 }

@@ -4,7 +4,8 @@ ghost use Rattle.lxr_large_model.specs.History.{LargeItem, large_state};
 ghost use Rattle.lxr_heap.specs.Bulk.{words_from};
 ghost use Rattle.lxr_heap.specs.Holding.{IsHeapOf};
 ghost use Rattle.lxr_c_base.specs.Requests.{register_of as is_register_of};
-ghost use Rattle.lxr_c_heap.specs.Hosting.{IsServing};
+ghost use Rattle.lxr_c_heap.specs.Hosting.{IsServing, registers_in};
+ghost use Rattle.lxr_c_heap.specs.Keeping.{registers_kept};
 ghost use Rattle.lxr_c_heap.specs.Looking.{Looks};
 ghost use Rattle.lxr_c_many.specs.Calling.{Does, PutsWords, SeesFields};
 ghost use Rattle.lxr_c_many.specs.Fields.{comes_to, put_of, words_in};
@@ -22,7 +23,6 @@ use lxr_heap::{BodyReply, LargeHeap};
 #[inline(always)]
 fn read_all(heap: &LargeHeap, base: u8, first: u16, words: &mut [u64])
     requires holds { ∥ ((h : List LargeItem) × IsHeapOf heap.now h) ∥₁ }
-    requires base { base < 16 }
     requires few { first + length words.old < 2 ^ 16 }
     requires there { (h : List LargeItem) → IsHeapOf heap.now h → HasWords (large_state h) base (first + length words.old) }
     ensures { (h : List LargeItem) → IsHeapOf heap.now h → words.new ≡ unwrap_or (words_from (words_in (large_state h) base) first (length words.old)) words.old }
@@ -36,10 +36,11 @@ fn read_all(heap: &LargeHeap, base: u8, first: u16, words: &mut [u64])
 #[inline(always)]
 pub(crate) fn write_all(heap: &mut HostHeap, base: u8, first: u16, words: &[u64])
     requires serving { IsServing heap.old }
-    requires base { base < 16 }
+    requires base { base < registers_in heap.old }
     requires few { first + length words.now < 2 ^ 16 }
     ensures follows { (h : List LargeItem) → IsHeapOf heap.old.heap h → HasWords (large_state h) base (first + length words.now)
         → Follows heap.old h heap.new (newest_first (put_of base) first words.now) }
+    ensures registers { registers_in heap.new ≡ registers_in heap.old }
     ensures serving { IsServing heap.new }
 {
     for (i, word) in words.iter().enumerate() {
@@ -51,7 +52,6 @@ pub(crate) fn write_all(heap: &mut HostHeap, base: u8, first: u16, words: &[u64]
 #[inline(always)]
 fn read(heap: &LargeHeap, base: u8, first: u32, words: &mut [u64]) -> BodyReply
     requires holds { ∥ ((h : List LargeItem) × IsHeapOf heap.now h) ∥₁ }
-    requires base { base < 16 }
     ensures { (h : List LargeItem) → IsHeapOf heap.now h
         → (result ≡ comes_to (words_in (large_state h) base) first (length words.old)) × (words.new ≡ unwrap_or (words_from (words_in (large_state h) base) first (length words.old)) words.old) }
 {
@@ -68,8 +68,9 @@ fn read(heap: &LargeHeap, base: u8, first: u32, words: &mut [u64]) -> BodyReply
 #[inline(always)]
 fn write(heap: &mut HostHeap, base: u8, first: u32, words: &[u64]) -> BodyReply
     requires serving { IsServing heap.old }
-    requires base { base < 16 }
+    requires base { base < registers_in heap.old }
     ensures writes { (h : List LargeItem) → IsHeapOf heap.old.heap h → PutsWords first words.now heap.old heap.new h base result }
+    ensures registers { registers_in heap.new ≡ registers_in heap.old }
     ensures serving { IsServing heap.new }
 {
     match find_words(&heap.heap, base, first, words.len()) {
@@ -88,11 +89,11 @@ pub fn get_many(
     first: u32,
     words: &mut [u64],
 ) -> Result<BodyReply, Code>
-    ensures reads { Looks (SeesFields first words.old words.new) handle.old.block.value handle.new.block.value (is_register_of base) result }
+    ensures reads { Looks (SeesFields first words.old words.new) handle.old.block.value handle.new.block.value (is_register_of (registers_kept handle.old.block.value) base) result }
     ensures kept { OnErr result (words.new ≡ words.old) }
 {
     handle.found()?;
-    let base = register_of(base)?;
+    let base = register_of(handle.registers(), base)?;
     Ok(read(&handle.block.lend().heap, base, first, words))
 }
 
@@ -103,9 +104,9 @@ pub fn put_many(
     first: u32,
     words: &[u64],
 ) -> Result<BodyReply, Code>
-    ensures { Does (PutsWords first words.now) handle.old.block.value handle.new.block.value (is_register_of base) result }
+    ensures { Does (PutsWords first words.now) handle.old.block.value handle.new.block.value (is_register_of (registers_kept handle.old.block.value) base) result }
 {
     handle.found()?;
-    let base = register_of(base)?;
+    let base = register_of(handle.registers(), base)?;
     Ok(write(handle.block.lend(), base, first, words))
 }

@@ -1,3 +1,4 @@
 pub mod AsHeld
 pub mod HolderLemmas
 pub mod OpeningLemmas
+pub mod RefusalLemmas

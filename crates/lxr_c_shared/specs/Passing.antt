@@ -1,16 +1,19 @@
 -- What calls do at a station.
 use Rattle.std.specs.Prelude.{◌≡◌, ◌⊎◌, ℕ, zero, suc, Bool, true, false, if◌then◌else◌, IsTrue, Option, None, Some, Result, Ok, Err}
+use Rattle.lxr_layout.specs.declared.TheConstants.{REGISTERS}
 use Rattle.lxr_graph.specs.declared.Op.{Op}
 use Rattle.lxr_graph.specs.declared.Reply.{Reply}
 use Rattle.lxr_graph.specs.declared.Reply.TheVariants as reply
 use Rattle.lxr_large_model.specs.declared.LargeReply.TheVariants as large_reply
+use Rattle.lxr_mutator.specs.Mutators.{IsOperation}
 use Rattle.lxr_core.specs.declared.actors.AnyActor.{AnyActor}
+use Rattle.lxr_core.specs.declared.actors.AnyActor.TheVariants as any
 use Rattle.lxr_shared_heap.specs.declared.station.Answer.{Answer}
 use Rattle.lxr_shared_heap.specs.declared.station.Answer.TheVariants as answer
 use Rattle.lxr_shared_heap.specs.declared.station.NotOut.{NotOut}
 use Rattle.lxr_shared_heap.specs.declared.station.NotOut.TheVariants as kept
 use Rattle.lxr_shared_heap.specs.Heaps.{Heaped, IsKept, IsPassOf}
-use Rattle.lxr_shared_heap.specs.Stations.{HasAnswered, HasGoneOn, Helps, IsOpen, IsSameStation, Stationed, is_mutator, newest_of}
+use Rattle.lxr_shared_heap.specs.Stations.{HasAnswered, HasGoneOn, HasNoRoom, Helps, IsOpen, IsSameStation, Stationed, is_mutator, newest_of, registers_of}
 use Rattle.lxr_shared_heap.specs.Wanting.{HasEnded, IsHeldUp}
 use Rattle.lxr_c_base.specs.declared.codes.Code.{Code}
 use Rattle.lxr_c_base.specs.declared.codes.Code.TheVariants as code
@@ -150,24 +153,34 @@ HelpsBy units (owned.Shared x) y answer = (y ≡ owned.Shared x) × (answer ≡ 
 
 -- ---- operations
 
--- why an actor takes no operation up: it is a helper, an operation is open, or it has had as many as it may
-abbrev pub IsRefusal : AnyActor → Code → Type 0
-IsRefusal a code.Kind = is_mutator a ≡ false
-IsRefusal a code.Busy = (is_mutator a ≡ true) × IsOpen a
-IsRefusal a code.UsedUp = (is_mutator a ≡ true) × ¬ IsOpen a
-IsRefusal a e = ⊥
+-- how many registers an operation may name: as many as the mutator may whose pass is away, and else all that there are
+abbrev pub registers_in : MayHold → ℕ
+registers_in (Some (owned.Away p)) = registers_of p.pass.actor
+registers_in x = REGISTERS
 
--- what is told of an answer that an actor has
-abbrev pub TellsAnswer : AnyActor → Answer → Told → Type 0
-TellsAnswer a (answer.Done r) told = told ≡ told_by r
-TellsAnswer a answer.Waits told = told ≡ only code.Waits
-TellsAnswer a answer.Pause told = told ≡ only code.Held
-TellsAnswer a answer.Ended told = told ≡ only code.Ended
-TellsAnswer a answer.Refused told = (told ≡ only told.code) × IsRefusal a told.code
+-- no operation is open, and there is no room for one that it may be asked for: it was ordered all that one of its number may be (`mutators_have_limits`)
+abbrev pub IsUsedUp : AnyActor → Op → Type 0
+IsUsedUp (any.Mutator m) o = (¬ IsOpen (any.Mutator m)) × (IsOperation m.width o → HasNoRoom m)
+IsUsedUp a o = ⊥
+
+-- why an actor takes no operation up: it is a helper, an operation is open, or it has had as many as it may
+abbrev pub IsRefusal : AnyActor → Op → Code → Type 0
+IsRefusal a o code.Kind = is_mutator a ≡ false
+IsRefusal a o code.Busy = (is_mutator a ≡ true) × IsOpen a
+IsRefusal a o code.UsedUp = IsUsedUp a o
+IsRefusal a o e = ⊥
+
+-- what is told of an answer that an actor has to an operation
+abbrev pub TellsAnswer : AnyActor → Op → Answer → Told → Type 0
+TellsAnswer a o (answer.Done r) told = told ≡ told_by r
+TellsAnswer a o answer.Waits told = told ≡ only code.Waits
+TellsAnswer a o answer.Pause told = told ≡ only code.Held
+TellsAnswer a o answer.Ended told = told ≡ only code.Ended
+TellsAnswer a o answer.Refused told = (told ≡ only told.code) × IsRefusal a o told.code
 
 -- an operation was ordered, and this is told of its answer
 abbrev pub Orders : Stationed → Op → Stationed → Told → Type 0
-Orders p o q told = IsSameStation p q × (a : Answer) × HasAnswered p.pass o a q.pass × TellsAnswer p.pass.actor a told
+Orders p o q told = IsSameStation p q × (a : Answer) × HasAnswered p.pass o a q.pass × TellsAnswer p.pass.actor o a told
 
 -- an operation was to be ordered
 abbrev pub Operates : SmallRequest → Owned → Owned → Told → Type 0

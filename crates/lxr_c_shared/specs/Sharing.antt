@@ -1,5 +1,6 @@
 -- What calls do at a heap that threads share.
-use Rattle.std.specs.Prelude.{◌≡◌, ◌↔◌, ◌⊎◌, ℕ, Bool, true, false, ◌/◌, ◌<◌, ◌==◌, ◌||◌, nat_lt, if◌then◌else◌, Option, None, Some, List, length, Result, Ok, Err}
+use Rattle.std.specs.Prelude.{◌≡◌, ◌↔◌, ◌⊎◌, ℕ, Bool, true, false, ◌/◌, ◌<◌, ◌==◌, ◌||◌, ◌&&◌, nat_lt, if◌then◌else◌, Option, None, Some, List, length, Result, Ok, Err}
+use Rattle.lxr_layout.specs.declared.TheConstants.{REGISTERS}
 use Rattle.lxr_graph.specs.declared.report.Kind.{Kind}
 use Rattle.lxr_graph.specs.declared.report.Kind.TheVariants as kind
 use Rattle.lxr_graph.specs.History.{Item, PauseReport}
@@ -30,12 +31,17 @@ use Rattle.lxr_c_shared.specs.Holding.{MayHold}
 abbrev pub evacuate_of : Wishes → Option ℕ
 evacuate_of w = if w.size == WISHES_BYTES then Some w.evacuate else (if w.size == FIRST_WISHES_BYTES then Some (w.blocks / 8) else None)
 
--- the settings that are wished for, where so many blocks are to be evacuated; none where there are more threads or helpers than any heap has; no names are told
+-- how many registers each thread may name: sixteen where settings of version 0.2 don't say it, or where they say 0
+abbrev pub registers_of : Wishes → ℕ
+registers_of w = if w.size == WISHES_BYTES && nat_lt 0 w.registers then w.registers else 16
+
+-- The settings that are wished for, where so many blocks are to be evacuated; none where there are more threads or helpers than any heap has, or more
+-- registers than any thread. No names are told.
 abbrev pub settings_with : Wishes → Option ℕ → Option Settings
 settings_with w None = None
 settings_with w (Some evacuate) =
-    if nat_lt 255 w.mutators || nat_lt 8 w.helpers then None
-    else Some (record { blocks = w.blocks; mutators = w.mutators; helpers = w.helpers; log = w.log; remember = w.remember; evacuate = evacuate; every = w.every; trace = w.trace; within = w.within; names = false })
+    if nat_lt 255 w.mutators || (nat_lt 8 w.helpers || nat_lt REGISTERS (registers_of w)) then None
+    else Some (record { blocks = w.blocks; mutators = w.mutators; helpers = w.helpers; log = w.log; remember = w.remember; registers = registers_of w; evacuate = evacuate; every = w.every; trace = w.trace; within = w.within; names = false })
 
 -- the settings that are wished for; none where their size isn't known either
 abbrev pub settings_of : Wishes → Option Settings

@@ -1,8 +1,11 @@
 //! What the calls of a program do at a station.
-ghost use Rattle.std.specs.Prelude.{◌≡◌, Some, Err, IfErr, IfOk};
+ghost use Rattle.std.specs.Prelude.{◌≡◌, ◌≤◌, Some, Err, IfErr, IfOk};
+ghost use Rattle.lxr_layout.specs.declared.TheConstants.{REGISTERS};
+ghost use Rattle.lxr_graph.specs.declared.Op.{Op as OpOf};
+ghost use Rattle.lxr_shared_heap.specs.Stations.{Refuses};
 ghost use Rattle.lxr_c_shared.specs.Ending.{homecoming_in};
 ghost use Rattle.lxr_c_shared.specs.Holding.{At};
-ghost use Rattle.lxr_c_shared.specs.Passing.{Answers, AnswersPass, ClosesStation, ComesHome, HelpsBy, HelpsPass, IsNotSent, IsRefusal, IsSentBy, LetsOut, LetsOutOf, Operates, Orders, SeesWanted, SendsPass, is_post, not_out_code as is_not_out_code, only as is_only, sent_code as is_sent_code, told_by as is_told_by, told_going as is_told_going, told_newest as is_told_newest, word_of as is_word_of};
+ghost use Rattle.lxr_c_shared.specs.Passing.{Answers, AnswersPass, ClosesStation, ComesHome, HelpsBy, HelpsPass, IsNotSent, IsRefusal, IsSentBy, LetsOut, LetsOutOf, Operates, Orders, SeesWanted, SendsPass, is_post, registers_in, not_out_code as is_not_out_code, only as is_only, sent_code as is_sent_code, told_by as is_told_by, told_going as is_told_going, told_newest as is_told_newest, word_of as is_word_of};
 
 use crate::boxing::{NoBox, Unboxed, boxed};
 use crate::holder::Holder;
@@ -10,6 +13,7 @@ use crate::owned::Owned;
 use lxr_c_base::{Code, code_of};
 use lxr_graph::{Op, Reply};
 use lxr_large_model::LargeReply;
+use lxr_layout::REGISTERS;
 use lxr_shared_heap::{Answer, Heap, Homecoming, NotOut, Station};
 use std::alloc::Global;
 use std::mem;
@@ -131,7 +135,7 @@ fn boxed_station(alloc: Global, heap: &Heap, number: u32) -> Result<Box<Owned, G
 /// Why a station refuses an operation of a thread.
 #[cold]
 fn refusal(station: &Station) -> Code
-    ensures { IsRefusal station.now.pass.actor result }
+    ensures { (o : OpOf) → Refuses station.now.pass.actor o → IsRefusal station.now.pass.actor o result }
 {
     if !station.is_mutator() {
         return Code::Kind;
@@ -171,6 +175,19 @@ fn answer(station: &mut Station) -> Told
 }
 
 impl Owned {
+    /// How many registers an operation may name.
+    #[inline(always)]
+    fn registers(&self) -> u16
+        ensures count { result ≡ registers_in (Some self.now) }
+        ensures few { result ≤ REGISTERS }
+    {
+        match self {
+            Owned::Away(sealed) => sealed.station.registers(),
+            Owned::Home(_) => REGISTERS as u16,
+            Owned::Shared(_) => REGISTERS as u16,
+        }
+    }
+
     /// Whether it is a station.
     fn is_station(&self) -> bool
         ensures { result ≡ is_post self.now }
@@ -369,6 +386,22 @@ impl Holder {
         let more = owned.help(units);
         self.put(owned);
         more
+    }
+
+    /// How many registers an operation may name: as many as the mutator may whose pass is away. Else no operation is taken up, whatever it names, and
+    /// all 256 are told.
+    #[inline(always)]
+    pub fn registers(&mut self, alloc: Global) -> u16
+        ensures count { result ≡ registers_in self.old.held.value }
+        ensures few { result ≤ REGISTERS }
+        ensures kept { self.new.held.value ≡ self.old.held.value }
+    {
+        let Some(owned) = self.take(alloc) else {
+            return REGISTERS as u16;
+        };
+        let registers = owned.registers();
+        self.put(owned);
+        registers
     }
 
     /// Orders an operation.

@@ -1,13 +1,14 @@
 //! What a program in C says of a heap that threads share.
 ghost use Rattle.std.specs.Prelude.{◌≡◌};
-ghost use Rattle.lxr_c_shared.specs.Sharing.{evacuate_of as is_evacuate_of, settings_of as is_settings_of};
+ghost use Rattle.lxr_c_shared.specs.Sharing.{evacuate_of as is_evacuate_of, registers_of as is_registers_of, settings_of as is_settings_of};
 
+use lxr_layout::REGISTERS;
 use lxr_shared_heap::Settings;
 
 /// The bytes of the settings that are known.
 pub const WISHES_BYTES: u64 = 48;
 
-/// The bytes of the settings of version 0.2, which don't say how many blocks are evacuated.
+/// The bytes of the settings of version 0.2, which don't say how many blocks are evacuated, nor how many registers there are.
 pub const FIRST_WISHES_BYTES: u64 = 40;
 
 /// The settings of a heap, as `lxr_passes_settings` has them: first how many bytes they are. What stands after so many isn't read.
@@ -24,8 +25,7 @@ pub struct Wishes {
     pub trace: u32,
     pub within: u32,
     pub evacuate: u32,
-    /// Nothing is said by these bytes.
-    pub unused: u32,
+    pub registers: u32,
 }
 
 /// How many blocks a trace is to evacuate at most: an eighth of all where settings of version 0.2 don't say it; none where their size isn't known.
@@ -41,13 +41,25 @@ fn evacuate_of(wishes: &Wishes) -> Option<u32>
     }
 }
 
-/// The settings of a heap that are wished for; none where their size isn't known, or there are more threads or helpers than any heap has. No
-/// program in C sees a name, so none is told.
+/// How many registers each thread is to have that it may name: sixteen where settings of version 0.2 don't say it, or where they say 0.
+fn registers_of(wishes: &Wishes) -> u32
+    ensures { result ≡ is_registers_of wishes.now }
+{
+    if wishes.size == WISHES_BYTES && wishes.registers > 0 {
+        wishes.registers
+    } else {
+        16
+    }
+}
+
+/// The settings of a heap that are wished for; none where their size isn't known, or there are more threads or helpers than any heap has, or
+/// more registers than any thread. No program in C sees a name, so none is told.
 pub(crate) fn settings_of(wishes: &Wishes) -> Option<Settings>
     ensures { result ≡ is_settings_of wishes.now }
 {
     let evacuate = evacuate_of(wishes)?;
-    if wishes.mutators > 255 || wishes.helpers > 8 {
+    let registers = registers_of(wishes);
+    if wishes.mutators > 255 || (wishes.helpers > 8 || registers > REGISTERS as u32) {
         return None;
     }
     Some(Settings {
@@ -56,6 +68,7 @@ pub(crate) fn settings_of(wishes: &Wishes) -> Option<Settings>
         helpers: wishes.helpers as u8,
         log: wishes.log,
         remember: wishes.remember,
+        registers: registers as u16,
         evacuate,
         every: wishes.every,
         trace: wishes.trace,

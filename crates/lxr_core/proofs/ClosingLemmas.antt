@@ -5,7 +5,7 @@ use Rattle.std.specs.List.{list_any}
 use Rattle.std.proofs.lemmas.List.{length-map}
 use Rattle.std.proofs.lemmas.List.Folds.{flat_map-map}
 use Rattle.std.proofs.lemmas.Option.{slice_get_within}
-use Rattle.lxr_layout.specs.declared.TheConstants.{PAUSE_WORD, REMEMBERED_CURSOR}
+use Rattle.lxr_layout.specs.declared.TheConstants.{PAUSE_WORD, REGISTERS, REMEMBERED_CURSOR}
 use Rattle.lxr_layout.specs.declared.limits.Limits.{Limits}
 use Rattle.lxr_layout.specs.declared.runs.LogEntry.{LogEntry}
 use Rattle.lxr_layout.specs.declared.Place.{Place}
@@ -13,6 +13,7 @@ use Rattle.lxr_base.specs.Roomy.{Roomy}
 use Rattle.lxr_graph.specs.History.{Item, calls_of, replies_of}
 use Rattle.lxr_image.specs.declared.space.Space.{Space}
 use Rattle.lxr_image.specs.declared.space.Tally.{Tally}
+use Rattle.lxr_image.specs.Registers.{Registers}
 use Rattle.lxr_image.specs.Tables.{Tables, tables_in}
 use Rattle.lxr_image.specs.Spaces.{tables_of}
 use Rattle.lxr_model.specs.Belongs.{HasCause, has_asked}
@@ -75,7 +76,7 @@ use Rattle.lxr_core.specs.Collecting.{HaveGiven, MayAllGive, actor_given_up, all
 use Rattle.lxr_core.specs.Closing.{AreFinished, AreResting, Closes, HasProgress, IsPauseExplained, IsPauseWanted, MayClose}
 use Rattle.lxr_core.specs.Ordering.{AreFull, ordered_in, orders_of}
 use Rattle.lxr_core.proofs.CollectedLemmas.{collected_is_told}
-use Rattle.lxr_core.proofs.CollectingLemmas.{all_given}
+use Rattle.lxr_core.proofs.CollectingLemmas.{all_given, holds_all}
 use Rattle.lxr_core.proofs.MappedLemmas.{first_item, mapped, mapped_from, same_by_index}
 use Rattle.lxr_core.proofs.OpenedLemmas.{waits_for_new}
 use Rattle.lxr_core.proofs.ScriptLemmas.{full_as, one_script}
@@ -194,6 +195,11 @@ log_room : (b : Beginning) (s : EpochState) (space : Space) (actors : List AnyAc
     → (m.log.room ≡ (limits_of b).log) × (length m.log.items ≤ m.log.room)
 log_room b s space actors i m is there = is.epoch.logged.rooms i (told_state s.history m) (shown_end b s space actors i m is there)
 
+-- the space has 256 registers for each mutator
+register_count : (b : Beginning) (s : EpochState) (space : Space) (actors : List AnyActor) → IsEnd b s space actors → length space.registers.items ≡ REGISTERS * length (mutators_in actors)
+register_count b s space actors is =
+    ap (λ (z : Space). length z.registers.items) is.space_is ∙ is.epoch.begins.between.safepoint.holds.as_many.0 ∙ ap (λ n. REGISTERS * n) (sym (mutator_count b s space actors is))
+
 -- all actors may give up what they have, and the space has room for it
 pub may_all_give : (b : Beginning) (s : EpochState) (space : Space) (actors : List AnyActor) → IsEnd b s space actors → MayAllGive space actors
 may_all_give b s space actors is =
@@ -201,25 +207,27 @@ may_all_give b s space actors is =
     let many = mutator_count b s space actors is in
     let few = opened.space.limits.threads.1 in
     let limits : space.limits ≡ limits_of b = ap (λ (z : Space). z.limits) is.space_is in
-    let registers : space.registers.room ≡ 16 * (limits_of b).threads = ap (λ (z : Space). z.registers.room) is.space_is ∙ opened.room.registers in
     let logged : space.logged.room ≡ (limits_of b).threads * (limits_of b).log = ap (λ (z : Space). z.logged.room) is.space_is ∙ opened.room.logged in
     let entries : length (mutators_in actors) * space.limits.log ≡ (limits_of b).threads * (limits_of b).log = ap (λ n. n * space.limits.log) many ∙ ap (λ (l : Limits). (limits_of b).threads * l.log) limits in
     let log : space.limits.log ≡ (limits_of b).log = ap (λ (l : Limits). l.log) limits in
     record {
       order = is.order;
+      threads = λ i x there. is.epoch.called.threads i (told_state s.history x) (shown_end b s space actors i x is there);
       few = omega (arith, many, few);
-      registers = omega (arith, many, registers);
+      registers = register_count b s space actors is;
+      width = ap (λ (z : Space). z.registers.width) is.space_is ∙ opened.room.registers ∙ ap (λ (l : Limits). l.registers) (sym limits);
       logged = omega (arith, entries, logged);
       each = λ i x there.
           let m = is.mutators i x there in
           let room = log_room b s space actors i x is there in
           let fits = room.1 in let same = room.0 in
-          let replies = m.sound.few_replies in let few_operations = m.sound.setup.few in
+          let replies = m.sound.few_replies in let replies_room = m.sound.setup.room in let most = m.sound.setup.most in
           record {
             rests = mutator_rests b s space actors i x is there;
-            sixteen = m.sound.registers.sixteen;
+            as_many = m.sound.registers.as_many;
+            width = m.width ∙ ap (λ (l : Limits). l.registers) (sym limits);
             log = omega (arith, fits, same, log);
-            replies = omega (arith, replies, few_operations);
+            replies = omega (arith, replies, replies_room, most);
           };
     }
 
@@ -235,7 +243,8 @@ same_entries h mutators = sym (flat_map-map (λ (v : ThreadState). v.log.items) 
 pub is_collected : (b : Beginning) (s : EpochState) (space now : Space) (actors : List AnyActor) → IsEnd b s space actors → now ≡ holding space (mutators_in actors) → HasCollected b s now
 is_collected b s space now actors is has = record {
   tables = ap tables_of has ∙ is.tables;
-  registers = ap (λ (z : Space). z.registers) has ∙ ap (λ (z : Space). places_in z (all_registers (mutators_in actors))) is.space_is ∙ ap (places_in b.space) (same_registers s.history (mutators_in actors) ∙ ap registers_of (sym is.thread_states));
+  registers = ap (λ (z : Space). z.registers) has ∙ ap (places_in space) (holds_all space (mutators_in actors) (register_count b s space actors is))
+      ∙ ap (λ (z : Space). places_in z (all_registers (mutators_in actors))) is.space_is ∙ ap (places_in b.space) (same_registers s.history (mutators_in actors) ∙ ap registers_of (sym is.thread_states));
   logged = ap (λ (z : Space). z.logged) has ∙ ap (λ (z : Space). entries_in z (all_entries (mutators_in actors))) is.space_is ∙ ap (entries_in b.space) (same_entries s.history (mutators_in actors) ∙ ap logs_of (sym is.thread_states));
   rest = has ∙ subst (λ z. holding z (mutators_in actors) ≡ refitted (holding z (mutators_in actors))) (sym is.space_is) refl ∙ ap refitted (sym has);
 }
@@ -243,7 +252,7 @@ is_collected b s space now actors is has = record {
     refitted : Space → Space
     refitted z = record b.space { words = z.words; registers = z.registers; logged = z.logged; tally = z.tally }
 
-    places_in : Space → List Place → Roomy Place
+    places_in : Space → List Place → Registers
     places_in z items = record z.registers { items = items }
 
     entries_in : Space → List LogEntry → Roomy LogEntry
@@ -355,6 +364,7 @@ mutator_still l m is rests =
         phase = rest_is_in m m.phase rests;
       };
       regions = is.regions;
+      width = is.width;
       steady = rest_is_steady m m.phase rests is.steady;
     }
 
@@ -606,7 +616,8 @@ closes b execution space now after before given may gave out =
       collects = λ none. collects b s space before is none ∙ ap (list_any has_collected) (sym gives);
       states = closed.states;
       remembered = none_remembered b s now after is.epoch (ap tables_of has ∙ is.tables) out;
-      registers = ap (λ (z : Space). z.registers.items) out.rest ∙ ap (λ (z : Space). z.registers.items) has ∙ ap (λ z. all_registers (mutators_in z)) (sym held);
+      registers = ap (λ (z : Space). z.registers.items) out.rest ∙ ap (λ (z : Space). z.registers.items) has ∙ holds_all space (mutators_in before) (register_count b s space before is)
+          ∙ ap (λ z. all_registers (mutators_in z)) (sym held);
       logged = ap (λ (z : Space). z.logged.items) out.rest ∙ ap (λ (z : Space). z.logged.items) has ∙ ap (λ z. all_entries (mutators_in z)) (sym held);
       tally = ap (λ (z : Space). z.tally) out.rest ∙ ap (λ (z : Space). z.tally) has ∙ same_tally space.tally (mutators_in before) ∙ ap (tally_with space.tally) (sym gives);
       rest = out.rest ∙ ap (λ z. with_words z after.words) has ∙ sym (ap fitted (out.rest ∙ ap (λ z. with_words z after.words) has));

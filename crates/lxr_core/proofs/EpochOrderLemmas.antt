@@ -45,7 +45,7 @@ module _ (b : Beginning) (s : EpochState) (i : ℕ) (v : ThreadState) (o : Op) (
 
   registers : HaveRegisters b (after_order s i v o)
   registers j u now = elim (shown_cases s.thread_states i v (with_order v o) j u shown now) [
-    | inl q ↦ subst (HoldsRegisters (moment_of b s).state s.at) (sym q.1) (let was = is.image.registers i v shown in record { sixteen = was.sixteen; places = was.places })
+    | inl q ↦ subst (HoldsRegisters (moment_of b s).state s.at) (sym q.1) (let was = is.image.registers i v shown in record { as_many = was.as_many; places = was.places })
     | inr q ↦ is.image.registers j u q.1
   ]
 

@@ -1,6 +1,6 @@
 -- What no step, order, beginning or end of an epoch changes of a mutator holds of each of them throughout: so it is of whether they tell names.
 use Rattle.std.proofs.Common.{◌≡◌, ℕ, zero, suc, ◌<◌, refl, sym, ap, subst, ◌∙◌, inl, inr, arith, Bool, true, false, List, [], ◌∷◌, length, map}
-use Rattle.std.specs.Prelude.{⊤, Option, Some, None, slice_get, slice_index, slice_set, if◌then◌else◌, option_map}
+use Rattle.std.specs.Prelude.{⊤, Option, Some, None, slice_get, slice_index, slice_set, option_map}
 use Rattle.std.proofs.lemmas.List.{length-map}
 use Rattle.std.proofs.lemmas.Bool.{cases_eq}
 use Rattle.std.proofs.lemmas.Option.{slice_get-map, slice_get_within}
@@ -15,9 +15,7 @@ use Rattle.lxr_actor.specs.Run.{acted, change, event, happened, of_event, run}
 use Rattle.lxr_mutator.specs.Mutating.{Mutating}
 use Rattle.lxr_mutator.specs.Steps.{after}
 use Rattle.lxr_mutator.specs.Mutators.{again}
-use Rattle.lxr_mutator.specs.Orders.{ordered, takes_order, with_order}
-use Rattle.lxr_mutator.specs.Laws.{StepsByRule}
-use Rattle.lxr_mutator.specs.Laws.StepsByRule.{does_one, finds_asked, finds_end, gave_up, goes_on, stands_still}
+use Rattle.lxr_mutator.specs.Orders.{ordered, ordered_if, takes_order}
 use Rattle.lxr_mutator.proofs.StepLemmas.{step_by_rule}
 use Rattle.lxr_core_invariant.proofs.ShowingLemmas.{set_elsewhere, set_here}
 use Rattle.lxr_core.specs.declared.actors.AnyActor.{AnyActor}
@@ -27,7 +25,9 @@ use Rattle.lxr_core.specs.Collecting.{actor_given_up, given_up}
 use Rattle.lxr_core.specs.Filling.{unfilled}
 use Rattle.lxr_core.specs.Opening.{Opens}
 use Rattle.lxr_core.specs.Ordering.{TellNames}
-use Rattle.lxr_core.specs.Starting.{registers_in, started_again}
+use Rattle.lxr_image.specs.Registers.{row_in}
+use Rattle.lxr_core.specs.Starting.{started_again}
+use Rattle.lxr_core.proofs.NamelessLemmas.{names_by}
 
 -- it lasts through steps and orders, and from one epoch to the next
 pub record Lasts (P : Mutating → Type 0) : Type 0 where
@@ -137,8 +137,8 @@ module _ (P : Mutating → Type 0) (lasts : Lasts P) where
       let (a, there) = within resting i (omega (arith, inside, many, as_many)) in
       let begun = have.started i a there (slice_get_within resting i a there) in
       let shown : slice_get (map unfilled started) i ≡ Some (unfilled b) = slice_get-map unfilled started i ∙ ap (option_map unfilled) at in
-      let same : started_again a (registers_in before.registers.items i) ≡ unfilled b = cc in
-      filled_holds b (subst Holds same (started_holds a (registers_in before.registers.items i) (each_holds resting each i a there))))
+      let same : started_again a (row_in before.registers.items i) ≡ unfilled b = cc in
+      filled_holds b (subst Holds same (started_holds a (row_in before.registers.items i) (each_holds resting each i a there))))
 
   -- as they give up what they had
   pub lasts_given : (actors : List AnyActor) → Each P (mutators_in actors) → Each P (mutators_in (map actor_given_up actors))
@@ -150,26 +150,14 @@ module _ (P : Mutating → Type 0) (lasts : Lasts P) where
 
 -- ---- names
 
--- each step of a mutator leaves whether it tells names
-step_names : (m : Mutating) (old : ℕ) (to : Mutating) → StepsByRule m old to → to.names ≡ m.names
-step_names m old to (goes_on log registers spans p busy) = refl
-step_names m old to (finds_asked ready is) = refl
-step_names m old to (finds_end ready unasked is) = refl
-step_names m old to (gave_up why is) = refl
-step_names m old to (does_one log registers r) = refl
-step_names m old to (stands_still is) = refl
-
--- so does an order that is taken or not
-abbrev ordered_if : Mutating → Op → Bool → Mutating × Bool
-ordered_if m o takes = if takes then (with_order m o, true) else (m, false)
-
+-- an order that is taken or not leaves whether it tells names, as each step does
 order_names : (m : Mutating) (o : Op) (takes : Bool) → (ordered_if m o takes).0.names ≡ m.names
 order_names m o true = refl
 order_names m o false = refl
 
 names_last : (names : Bool) → Lasts (λ m. m.names ≡ names)
 names_last names = record {
-  steps = λ m old is. step_names m old (after m old) (step_by_rule m old) ∙ is;
+  steps = λ m old is. names_by m old (after m old) (step_by_rule m old) ∙ is;
   orders = λ m o is. order_names m o (takes_order m o) ∙ is;
   begins = λ m registers is. is;
   ends = λ m is. is;

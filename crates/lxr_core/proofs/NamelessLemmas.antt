@@ -118,7 +118,7 @@ pub record StepsTo (b : Beginning) (s : EpochState) (words : List ℕ) (i : ℕ)
 -- ---- who tells names
 
 -- a step leaves it so
-names_by : (m : Mutating) (old : ℕ) (to : Mutating) → StepsByRule m old to → to.names ≡ m.names
+pub names_by : (m : Mutating) (old : ℕ) (to : Mutating) → StepsByRule m old to → to.names ≡ m.names
 names_by m old to (goes_on log registers spans p busy) = refl
 names_by m old to (finds_asked ready is) = refl
 names_by m old to (finds_end ready unasked is) = refl

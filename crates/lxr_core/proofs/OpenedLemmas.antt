@@ -3,10 +3,10 @@ use Rattle.std.proofs.Common.{◌≡◌, ◌≢◌, ℕ, zero, suc, ◌+◌, ◌
 use Rattle.std.specs.Prelude.{All, Option, Some, None, ◌&&◌, if◌then◌else◌, map, not, slice_get, slice_index_or, take, drop}
 use Rattle.std.specs.List.{count_by}
 use Rattle.std.proofs.Math.ListN.{get_or-map}
-use Rattle.std.proofs.lemmas.List.{get_or-drop, get_or-take, length-drop, length-map, length-take-le}
+use Rattle.std.proofs.lemmas.List.{length-map}
 use Rattle.std.proofs.lemmas.List.Elements.{All-from_get_or}
 use Rattle.std.proofs.lemmas.Option.{slice_get-get_or, slice_get_past, slice_get_within}
-use Rattle.lxr_layout.specs.declared.TheConstants.{GRANULES_IN_BLOCK, MOST_BLOCKS, MOST_GRANULES, PAUSE_WORD}
+use Rattle.lxr_layout.specs.declared.TheConstants.{GRANULES_IN_BLOCK, MOST_BLOCKS, MOST_GRANULES, PAUSE_WORD, REGISTERS}
 use Rattle.lxr_layout.specs.declared.Name.{Name}
 use Rattle.lxr_layout.specs.declared.Place.{Place}
 use Rattle.lxr_layout.specs.declared.limits.Limits.{Limits}
@@ -14,9 +14,12 @@ use Rattle.lxr_layout.specs.Objects.{word_count}
 use Rattle.lxr_layout.specs.Spaces.{all_regions, counts_region, region_begin}
 use Rattle.lxr_graph.specs.History.{Item, calls_of, replies_of}
 use Rattle.lxr_graph.specs.State.{State, next_name, shape_of}
+use Rattle.lxr_graph.proofs.FormLemmas.{formed_more}
 use Rattle.lxr_mutator.specs.Mutating as mutating
 use Rattle.lxr_image.specs.declared.space.Space.{Space}
 use Rattle.lxr_image.specs.Image.{ArePlacesOf, IsImage, place_word}
+use Rattle.lxr_image.specs.Registers.{UnnamedAreNil, row_in}
+use Rattle.lxr_image.proofs.RegisterLemmas.{held-row, length-row}
 use Rattle.lxr_image.specs.Reads.{granule_of}
 use Rattle.lxr_image.specs.Spaces.{Turns, tables_of}
 use Rattle.lxr_image.specs.Tables.{Tables, changed, tables_in}
@@ -59,11 +62,11 @@ use Rattle.lxr_core.specs.declared.actors.AnyActor.{AnyActor}
 use Rattle.lxr_core.specs.declared.actors.AnyActor.TheVariants as any
 use Rattle.lxr_core.specs.Actors.{AreInOrder, decrementers_in, mutators_in, tracers_in}
 use Rattle.lxr_core.specs.Resting.{ActorsRestAfter, FitsThread, RestsAfter}
-use Rattle.lxr_core.specs.Starting.{HaveStarted, MayAllStart, registers_in, started_again}
+use Rattle.lxr_core.specs.Starting.{HaveStarted, MayAllStart, MayNameAll, started_again}
 use Rattle.lxr_core.specs.Executions.{HoldsExecution, epoch_state_of}
 use Rattle.lxr_core.specs.Filling.{FillsPockets, HaveFilled, HoldInOrder, MayAllFill, MayFill, holding_places, places_of, unfilled}
 use Rattle.lxr_core.specs.Opening.{Begins, MayOpen, Opens, execution_at}
-use Rattle.lxr_core.proofs.AgainLemmas.{registers_held}
+use Rattle.lxr_core.proofs.AgainLemmas.{are_registers}
 use Rattle.lxr_core.proofs.MappedLemmas.{mapped, mapped_from}
 use Rattle.lxr_core.proofs.OrderLemmas.{AreAlike, SameKind, alike_counts, alike_order, helper_at, helper_from, lengths_add, mutator_at, mutator_from, tracer_at, tracer_from, two_helpers, two_mutators, two_tracers}
 use Rattle.lxr_core.proofs.PocketLemmas.{pockets_filled, stands_in_all}
@@ -94,24 +97,20 @@ in_heap t blocks at m (Some n) image few held =
 all_held : (t : Tables) (blocks : ℕ) (at : Name → ℕ) (m : Moment) (places : List Place) → FollowsPause m → IsImage t blocks at m.state.graph (members m) → blocks ≤ MOST_BLOCKS → ArePlacesOf at places m.state.registers
     → All IsHeld places
 all_held t blocks at m places follows image few are = All-from_get_or IsHeld places nil (λ k h.
-    let same : 16 * (k / 16 + 1 - 1) + k % 16 ≡ k = omega arith in
-    let held = subst (λ z. model.IsHeld m (slice_index_or m.state.registers z None)) same (in_register m (k / 16 + 1) (k % 16) follows) in
+    let same : REGISTERS * (k / REGISTERS + 1 - 1) + k % REGISTERS ≡ k = omega arith in
+    let held = subst (λ z. model.IsHeld m (slice_index_or m.state.registers z None)) same (in_register m (k / REGISTERS + 1) (k % REGISTERS) follows) in
     subst (λ z. z ≤ MOST_GRANULES) (sym (place_at at places m.state.registers k are)) (in_heap t blocks at m (slice_index_or m.state.registers k None) image few held))
 
--- each thread has sixteen
-sixteen_of : (places : List Place) (threads i : ℕ) → length places ≡ 16 * threads → i < threads → length (registers_in places i) ≡ 16
-sixteen_of places threads i many less = let behind = length-drop (16 * i) places in length-take-le 16 (drop (16 * i) places) (omega (arith, behind, many, less))
-
 -- the registers of a thread hold the places of what the model's do
-holds_registers : (st : State) (at : Name → ℕ) (places : List Place) (threads i : ℕ) (v : ThreadState) → ArePlacesOf at places st.registers → length places ≡ 16 * threads → i < threads
-    → v.thread ≡ i + 1 → v.registers ≡ registers_in places i → HoldsRegisters st at v
+holds_registers : (st : State) (at : Name → ℕ) (places : List Place) (threads i : ℕ) (v : ThreadState) → ArePlacesOf at places st.registers → length places ≡ REGISTERS * threads → i < threads
+    → v.thread ≡ i + 1 → v.registers ≡ row_in places i → HoldsRegisters st at v
 holds_registers st at places threads i v are many less thread registers = record {
-  sixteen = ap length registers ∙ sixteen_of places threads i many less;
+  as_many = ap length registers ∙ length-row places i (omega (arith, many, less));
   places = λ r below.
-      let same : 16 * i + r ≡ 16 * (v.thread - 1) + r = omega (arith, thread) in
+      let same : REGISTERS * i + r ≡ REGISTERS * (v.thread - 1) + r = omega (arith, thread) in
       ap (λ z. (slice_index_or z r nil).0) registers
-      ∙ (ap (λ p. p.0) (get_or-take 16 (drop (16 * i) places) r nil below ∙ get_or-drop (16 * i) places r nil)
-      ∙ (place_at at places st.registers (16 * i + r) are ∙ ap (λ z. place_word at (slice_index_or st.registers z None)) same));
+      ∙ (ap (λ p. p.0) (held-row places i r below)
+      ∙ (place_at at places st.registers (REGISTERS * i + r) are ∙ ap (λ z. place_word at (slice_index_or st.registers z None)) same));
 }
 
 -- ---- a mutator that begins again
@@ -144,7 +143,7 @@ stage_again v m (Some ends.Ended) same all few = subst (λ r. StartsIn v (Throug
 stage_again v m e same all few = anew (few (λ z. cc))
 
 -- it is a mutator still
-again_mutator : (l : Limits) (m : Mutating) (registers : List Place) → IsMutatorOf l m → rests_in m.phase ≡ true → AreRegisters registers → IsMutatorOf l (again m registers)
+again_mutator : (l : Limits) (m : Mutating) (registers : List Place) → IsMutatorOf l m → rests_in m.phase ≡ true → AreRegisters m.width registers → IsMutatorOf l (again m registers)
 again_mutator l m registers is rests are = record {
   sound = let sound = is.sound in record {
     setup = sound.setup;
@@ -158,6 +157,7 @@ again_mutator l m registers is rests are = record {
     phase = may_again (again m registers) m.end;
   };
   regions = is.regions;
+  width = is.width;
   steady = steady_again (again m registers) m.end refl (waits_for_new m m.phase rests is.steady);
 }
 
@@ -195,17 +195,17 @@ again_told l turns h t m registers rests =
     has_told h (again m registers) (looks_again m.end) (rest_replies l turns h t m rests) rests.unnamed
 
 -- it shows what mutators show as an epoch opens
-again_starts : (b : Beginning) (places : List Place) (i : ℕ) (m : Mutating) → ArePlacesOf b.abstract_state.at places b.abstract_state.moment.state.registers → length places ≡ 16 * (limits_of b).threads
-    → i < (limits_of b).threads → RestsAfter (limits_of b) b.every b.history (i + 1) m → Starts b i (shown_in b.history (again m (registers_in places i)))
+again_starts : (b : Beginning) (places : List Place) (i : ℕ) (m : Mutating) → ArePlacesOf b.abstract_state.at places b.abstract_state.moment.state.registers → length places ≡ REGISTERS * (limits_of b).threads
+    → i < (limits_of b).threads → RestsAfter (limits_of b) b.every b.history (i + 1) m → Starts b i (shown_in b.history (again m (row_in places i)))
 again_starts b places i m are many less rests =
     let sound = rests.mutator.sound in
     let h : List Item = b.history in
-    let x : Mutating = again m (registers_in places i) in
-    let told = again_told (limits_of b) b.every h (i + 1) m (registers_in places i) rests in
+    let x : Mutating = again m (row_in places i) in
+    let told = again_told (limits_of b) b.every h (i + 1) m (row_in places i) rests in
     let as_many = told_length h x told in
     subst (Starts b i) (sym (shown_told h x told)) (record {
       thread = rests.thread;
-      formed = λ k d h. (sound.setup.operations k d h).0;
+      formed = λ k d h. formed_more m.width REGISTERS (slice_index_or m.operations k d) sound.setup.width.1 (sound.setup.operations k d h).0;
       endless = λ k d h. (sound.setup.operations k d h).1;
       few = sound.setup.few;
       began = subst (λ t. m.before ≡ objects_before t b.history) (sym rests.thread) rests.began;
@@ -224,7 +224,7 @@ again_starts b places i m are many less rests =
 
 -- what it was, whatever its pocket was filled with
 was_at : (places : List Place) (before after : List AnyActor) (i : ℕ) (x : AnyActor) → HaveStarted places before (map unfilled after) (length before) → slice_get after i ≡ Some x
-    → (a : AnyActor) × (slice_get before i ≡ Some a) × (unfilled x ≡ started_again a (registers_in places i))
+    → (a : AnyActor) × (slice_get before i ≡ Some a) × (unfilled x ≡ started_again a (row_in places i))
 was_at places before after i x is there =
     let many = is.as_many in
     let as_many = length-map after unfilled in
@@ -232,8 +232,8 @@ was_at places before after i x is there =
     let below : i < length before = omega (arith, many, as_many, inside) in
     let was = slice_get-get_or before i x below in
     let now = is.started i (slice_index_or before i x) was below in
-    let same : Some (unfilled x) ≡ Some (started_again (slice_index_or before i x) (registers_in places i)) = sym (mapped unfilled after i x there) ∙ now in
-    (slice_index_or before i x, was, some_same (unfilled x) (started_again (slice_index_or before i x) (registers_in places i)) same)
+    let same : Some (unfilled x) ≡ Some (started_again (slice_index_or before i x) (row_in places i)) = sym (mapped unfilled after i x there) ∙ now in
+    (slice_index_or before i x, was, some_same (unfilled x) (started_again (slice_index_or before i x) (row_in places i)) same)
   where
     some_same : (a c : AnyActor) → Some a ≡ Some c → a ≡ c
     some_same a c e = cc
@@ -271,15 +271,15 @@ again_alike : (places : List Place) (before after : List AnyActor) → HaveStart
 again_alike places before after is = record {
   as_many = sym (length-map after unfilled) ∙ is.as_many;
   each = λ i a there.
-      let (x, stands, same) = mapped_from unfilled after i (started_again a (registers_in places i)) (is.started i a there (slice_get_within before i a there)) in
-      (x, stands, of_kind a x (registers_in places i) same);
+      let (x, stands, same) = mapped_from unfilled after i (started_again a (row_in places i)) (is.started i a there (slice_get_within before i a there)) in
+      (x, stands, of_kind a x (row_in places i) same);
 }
 
 -- a mutator, a decrementer and a tracer that have begun again, with what they were
 pub record WasMutator (places : List Place) (before : List AnyActor) (i : ℕ) (m : Mutating) : Type 0 where
   pub was : Mutating
   pub stood : slice_get (mutators_in before) i ≡ Some was
-  pub is : m ≡ again was (registers_in places i)
+  pub is : m ≡ again was (row_in places i)
 
 pub record WasHelper (before : List AnyActor) (d : DecrementerState) : Type 0 where
   pub was : DecrementerState
@@ -302,14 +302,14 @@ module _ (places : List Place) (before after : List AnyActor) (order : AreInOrde
   pub mutator_started : (i : ℕ) (m : Mutating) → slice_get (mutators_in after) i ≡ Some m → WasMutator places before i m
   mutator_started i m there =
       let (a, stood, e) = was_at places before after i (any.Mutator m) started (mutator_from after i m started_order there) in
-      let (x, kind, same) = mutator_was a (registers_in places i) m e in
+      let (x, kind, same) = mutator_was a (row_in places i) m e in
       record { was = x; stood = mutator_at before i x order (stood ∙ ap Some kind); is = same }
 
   pub helper_started : (i : ℕ) (d : DecrementerState) → slice_get (decrementers_in after) i ≡ Some d → WasHelper before d
   helper_started i d there =
       let (n, at) = helper_from after i d there in
       let (a, stood, e) = was_at places before after n (any.Decrementer d) started at in
-      let (x, kind, same) = helper_was a (registers_in places n) d e in
+      let (x, kind, same) = helper_was a (row_in places n) d e in
       let old = helper_at before n x (stood ∙ ap Some kind) in
       record { was = x; number = old.number; stood = old.stands; is = same }
 
@@ -317,7 +317,7 @@ module _ (places : List Place) (before after : List AnyActor) (order : AreInOrde
   tracer_started i d there =
       let (n, at) = tracer_from after i d there in
       let (a, stood, e) = was_at places before after n (any.Tracer d) started at in
-      let (x, kind, same) = tracer_was a (registers_in places n) (holding_places d []) e in
+      let (x, kind, same) = tracer_was a (row_in places n) (holding_places d []) e in
       let old = tracer_at before n x (stood ∙ ap Some kind) in
       record { was = x; number = old.number; stood = old.stands; is = same }
 
@@ -349,8 +349,8 @@ module _ (b : Beginning) (before after : List AnyActor) (begins : IsBeginning b)
   are : ArePlacesOf b.abstract_state.at b.space.registers.items b.abstract_state.moment.state.registers
   are = begins.between.safepoint.holds.image.registers
 
-  -- there are sixteen for each thread
-  many : length b.space.registers.items ≡ 16 * (limits_of b).threads
+  -- there are 256 for each thread
+  many : length b.space.registers.items ≡ REGISTERS * (limits_of b).threads
   many = begins.between.safepoint.holds.as_many.0
 
   -- they hold places
@@ -385,19 +385,22 @@ module _ (b : Beginning) (before after : List AnyActor) (begins : IsBeginning b)
   }
 
   -- all are mutators still
-  pub all_mutators : (i : ℕ) (m : Mutating) → slice_get (mutators_in after) i ≡ Some m → IsMutatorOf (limits_of b) m
-  all_mutators i m there =
+  pub all_mutators : UnnamedAreNil b.space.registers → (i : ℕ) (m : Mutating) → slice_get (mutators_in after) i ≡ Some m → IsMutatorOf (limits_of b) m
+  all_mutators unnamed i m there =
       let old = was_mutator i m there in
       let rests = rest.mutators.each i old.was old.stood in
+      let below = below_threads i old.was old.stood in
+      let width : b.space.registers.width ≡ old.was.width = begins.between.safepoint.holds.room.registers ∙ sym rests.mutator.width in
       subst (IsMutatorOf (limits_of b)) (sym old.is)
-      (again_mutator (limits_of b) old.was (registers_in b.space.registers.items i) rests.mutator rests.rests
-      (record { sixteen = sixteen_of b.space.registers.items (limits_of b).threads i many (below_threads i old.was old.stood); held = registers_held b.space.registers.items i places_held }))
+      (again_mutator (limits_of b) old.was (row_in b.space.registers.items i) rests.mutator rests.rests
+      (subst (λ w. AreRegisters w (row_in b.space.registers.items i)) width
+      (are_registers b.space.registers.items i b.space.registers.width (omega (arith, many, below)) places_held (unnamed i))))
 
   -- all have told the replies of the history
   pub all_told : (i : ℕ) (m : Mutating) → slice_get (mutators_in after) i ≡ Some m → HasTold b.history m
   all_told i m there =
       let old = was_mutator i m there in
-      subst (HasTold b.history) (sym old.is) (again_told (limits_of b) b.every b.history (i + 1) old.was (registers_in b.space.registers.items i) (rest.mutators.each i old.was old.stood))
+      subst (HasTold b.history) (sym old.is) (again_told (limits_of b) b.every b.history (i + 1) old.was (row_in b.space.registers.items i) (rest.mutators.each i old.was old.stood))
 
   -- all decrementers are so still
   pub all_helpers : (i : ℕ) (d : DecrementerState) → slice_get (decrementers_in after) i ≡ Some d → IsDecrementerOf (limits_of b) d
@@ -450,6 +453,10 @@ may_all_start g before actors may i (any.Mutator m) there =
 may_all_start g before actors may i (any.Decrementer d) there = tt
 may_all_start g before actors may i (any.Tracer d) there = tt
 
+-- each may name as many registers as a thread of the space
+pub may_name_all : (g : AbstractState) (before : Space) (actors : List AnyActor) → MayOpen g before actors → MayNameAll before.registers.width (mutators_in actors)
+may_name_all g before actors may i m there = (may.fit.each i m there).mutator.width ∙ sym may.between.safepoint.holds.room.registers
+
 -- once they have begun again, tracers' pockets are empty
 pub may_all_fill : (g : AbstractState) (before : Space) (actors begun : List AnyActor) → MayOpen g before actors → HaveStarted before.registers.items actors begun (length actors) → MayAllFill before.limits begun
 may_all_fill g before actors begun may is i x there =
@@ -458,13 +465,13 @@ may_all_fill g before actors begun may is i x there =
     let below : i < length actors = omega (arith, many, inside) in
     let was = slice_get-get_or actors i x below in
     let now = is.started i (slice_index_or actors i x) was below in
-    subst (MayFill before.limits) (sym (some_same x (started_again (slice_index_or actors i x) (registers_in before.registers.items i)) (sym there ∙ now)))
+    subst (MayFill before.limits) (sym (some_same x (started_again (slice_index_or actors i x) (row_in before.registers.items i)) (sym there ∙ now)))
     (by_kind (slice_index_or actors i x) was)
   where
     some_same : (a c : AnyActor) → Some a ≡ Some c → a ≡ c
     some_same a c e = cc
 
-    by_kind : (a : AnyActor) → slice_get actors i ≡ Some a → MayFill before.limits (started_again a (registers_in before.registers.items i))
+    by_kind : (a : AnyActor) → slice_get actors i ≡ Some a → MayFill before.limits (started_again a (row_in before.registers.items i))
     by_kind (any.Mutator m) at = tt
     by_kind (any.Decrementer d) at = tt
     by_kind (any.Tracer d) at = let old = tracer_at actors i d at in ((tracers_stay before.limits d (may.fit.helpers.tracers old.number d old.stands).tracer).again, refl)
@@ -523,8 +530,9 @@ epoch_state_opened b after actors limits tables =
     ap (λ t. epoch_state_with b t (map (shown_in b.history) (mutators_in actors)) (map decrementing_of (decrementers_in actors)) (map tracing_of (tracers_in actors))) (sym same)
 
 -- the invariant of the epoch holds
-holds : (b : Beginning) (after : Space) (before now : List AnyActor) → b.space.pauses < 2 ^ 32 → length before < 2 ^ 63 → Begins b b.space before → Opens b.space after before now → HoldsExecution b (execution_at b after now)
-holds b after before now pauses few is opened =
+holds : (b : Beginning) (after : Space) (before now : List AnyActor) → b.space.pauses < 2 ^ 32 → UnnamedAreNil b.space.registers → length before < 2 ^ 63 → Begins b b.space before → Opens b.space after before now
+    → HoldsExecution b (execution_at b after now)
+holds b after before now pauses unnamed few is opened =
     let limits : after.limits ≡ b.space.limits = ap (λ s. s.limits) opened.space.rest in
     let start = all_start b before now is.begins is.actors_rest opened.actors in
     let epoch = opens b (map (shown_in b.history) (mutators_in now)) (map decrementing_of (decrementers_in now)) (map tracing_of (tracers_in now)) is.begins pauses start (helpers_rest b before now is.begins is.actors_rest opened.actors few) is.few is.unasked in
@@ -534,7 +542,7 @@ holds b after before now pauses few is opened =
         epoch = subst (IsEpoch b) (epoch_state_opened b after now limits opened.space.tables) epoch;
         size = sym (size_is after.limits after.words) ∙ size;
         order = started_order b.space.registers.items before now is.actors_rest.helpers.order opened.actors;
-        mutators = all_mutators b before now is.begins is.actors_rest opened.actors;
+        mutators = all_mutators b before now is.begins is.actors_rest opened.actors unnamed;
         told = all_told b before now is.begins is.actors_rest opened.actors;
         decrementers = all_helpers b before now is.begins is.actors_rest opened.actors;
         tracers = all_tracers b before now is.begins is.actors_rest opened.actors opened.pockets;
@@ -542,9 +550,10 @@ holds b after before now pauses few is opened =
     )
 
 -- the same of the space as it stood before, whose number of pauses has 32 bits
-pub holds_at : (b : Beginning) (before after : Space) (actors now : List AnyActor) → before.pauses < 2 ^ 32 → length actors < 2 ^ 63 → Begins b before actors → Opens before after actors now → HoldsExecution b (execution_at b after now)
-holds_at b before after actors now pauses few is opened =
-    subst (λ s. s.pauses < 2 ^ 32 → Begins b s actors → Opens s after actors now → HoldsExecution b (execution_at b after now)) is.space_is (λ low. holds b after actors now low few) pauses is opened
+pub holds_at : (b : Beginning) (before after : Space) (actors now : List AnyActor) → before.pauses < 2 ^ 32 → UnnamedAreNil before.registers → length actors < 2 ^ 63 → Begins b before actors → Opens before after actors now
+    → HoldsExecution b (execution_at b after now)
+holds_at b before after actors now pauses unnamed few is opened =
+    subst (λ s. s.pauses < 2 ^ 32 → UnnamedAreNil s.registers → Begins b s actors → Opens s after actors now → HoldsExecution b (execution_at b after now)) is.space_is (λ low nils. holds b after actors now low nils few) pauses unnamed is opened
 
 -- what is to be scanned is told by grays and marks alone
 places_like : (t u : Tables) (from count : ℕ) → u.grays ≡ t.grays → u.marks ≡ t.marks → places_of u from count ≡ places_of t from count
@@ -587,7 +596,7 @@ begun_unfilled (any.Tracer d) registers = refl
 filled_started : (places : List Place) (actors begun now : List AnyActor) → HaveStarted places actors begun (length actors) → map unfilled now ≡ map unfilled begun → HaveStarted places actors (map unfilled now) (length actors)
 filled_started places actors begun now is same = subst (λ z. HaveStarted places actors z (length actors)) (sym same) (record {
   as_many = length-map begun unfilled ∙ is.as_many;
-  started = λ i a there below. mapped unfilled begun i (started_again a (registers_in places i)) (is.started i a there below) ∙ ap Some (begun_unfilled a (registers_in places i));
+  started = λ i a there below. mapped unfilled begun i (started_again a (row_in places i)) (is.started i a there below) ∙ ap Some (begun_unfilled a (row_in places i));
   others = λ i past.
       let many = is.as_many in
       let as_many = length-map begun unfilled in

@@ -355,6 +355,14 @@ mutators_few (any.Mutator m ∷ actors) (suc n) = let rest = mutators_few actors
 mutators_few (any.Decrementer d ∷ actors) (suc n) = let rest = mutators_few actors n in omega (arith, rest)
 mutators_few (any.Tracer d ∷ actors) (suc n) = let rest = mutators_few actors n in omega (arith, rest)
 
+-- those before a mutator are all mutators
+pub first_many : (actors : List AnyActor) (n : ℕ) (m : Mutating) → AreInOrder actors → slice_get actors n ≡ Some (any.Mutator m) → length (mutators_in (take n actors)) ≡ n
+first_many actors zero m is there = refl
+first_many [] (suc n) m is there = absurd (cc)
+first_many (any.Mutator x ∷ actors) (suc n) m is there = ap suc (first_many actors n m (behind_mutator x actors is) there)
+first_many (any.Decrementer x ∷ actors) (suc n) m is there = no_mutator actors n m (behind_decrementer x actors is).mutators there
+first_many (any.Tracer x ∷ actors) (suc n) m is there = no_mutator actors n m (behind_tracer x actors is).mutators there
+
 -- and they stand among all
 pub mutator_of_first : (actors : List AnyActor) (n i : ℕ) (m : Mutating) → slice_get (mutators_in (take n actors)) i ≡ Some m → slice_get (mutators_in actors) i ≡ Some m
 mutator_of_first actors zero i m there = absurd (cc)

@@ -1,14 +1,16 @@
 -- A mutator that is ordered an operation, whether it takes it or not: the invariant of the epoch holds of what it shows then.
 use Rattle.std.proofs.Common.{◌≡◌, ◌∙◌, ℕ, ◌<◌, [], ◌∷◌, Bool, true, false, List, arith, refl, sym, ap, subst, length}
-use Rattle.std.specs.Prelude.{Some, if◌then◌else◌, slice_get, slice_set}
+use Rattle.std.specs.Prelude.{Some, slice_get, slice_set}
 use Rattle.std.proofs.lemmas.List.{get_or_append_left}
+use Rattle.lxr_layout.specs.declared.TheConstants.{REGISTERS}
+use Rattle.lxr_graph.proofs.FormLemmas.{formed_more}
 use Rattle.lxr_graph.specs.declared.Op.{Op}
 use Rattle.lxr_graph.specs.declared.Op.TheVariants as op
 use Rattle.lxr_graph.specs.History.{Item}
 use Rattle.lxr_mutator.specs.Mutating.{Mutating, op_now}
 use Rattle.lxr_mutator.specs.Mutators.{MayTakeOrder}
 use Rattle.lxr_mutator.specs.Naming.{without_names}
-use Rattle.lxr_mutator.specs.Orders.{ordered, takes_order, with_order}
+use Rattle.lxr_mutator.specs.Orders.{ordered, ordered_if, takes_order, with_order}
 use Rattle.lxr_mutator.proofs.MostLemmas.{few_operations}
 use Rattle.lxr_mutator.proofs.OrderLemmas.{takes_order_decides, with_order_stays}
 use Rattle.lxr_core_invariant.specs.ThreadStates.{ThreadState}
@@ -66,13 +68,14 @@ module _ (b : Beginning) (s : EpochState) (words : List ℕ) (n : ℕ) (m : Muta
       let room = may.room in
       let most = shows.mutator.sound.setup.most in
       let few = few_operations m.thread in
-      let may_be : MayBeOrdered (told_state h m) o = record { stage = stage; formed = may.operation.0; endless = may.operation.1; few = omega (arith, room, most, few) } in
+      let may_be : MayBeOrdered (told_state h m) o = record { stage = stage; formed = formed_more m.width REGISTERS o shows.mutator.sound.setup.width.1 may.operation.0; endless = may.operation.1; few = omega (arith, room, most, few) } in
       let steady = subst (IsSteadyIn m) may.ready shows.mutator.steady in
       record {
         epoch = subst (λ v. IsEpoch b (record s { thread_states = slice_set s.thread_states n v })) same (orders_keep_epochs b s n (told_state h m) o shows.epoch shown may_be);
         mutator = record {
           sound = with_order_stays m o may shows.mutator.sound;
           regions = shows.mutator.regions;
+          width = shows.mutator.width;
           steady = subst (IsSteadyIn (with_order m o)) (sym may.ready) (
             steady.0,
             λ waits. (let is = steady.1 waits in (is.0, is.1, same_now m o (shows.mutator.sound.waits waits) ∙ is.2)),
@@ -81,7 +84,7 @@ module _ (b : Beginning) (s : EpochState) (words : List ℕ) (n : ℕ) (m : Muta
         told = told;
       }
 
-  by_test : (c : Bool) → takes_order m o ≡ c → OrdersStep b s n ((if◌then◌else◌ {A = Mutating × Bool} c (with_order m o, true) (m, false)).0)
+  by_test : (c : Bool) → takes_order m o ≡ c → OrdersStep b s n (ordered_if m o c).0
   by_test true e = taken ((takes_order_decides m o).0 e)
   by_test false e = record { epoch = subst (IsEpoch b) (unchanged s n (shown_in s.history m) shows.thread_state) shows.epoch; mutator = shows.mutator; told = shows.told }
 

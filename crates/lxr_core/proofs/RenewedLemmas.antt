@@ -37,7 +37,8 @@ module _ (m : Mutating) (before : ℕ) where
       record {
         setup = record {
           thread = is.setup.thread;
-          operations = All-drop IsOperation (length m.replies.items) m.operations is.setup.operations;
+          width = is.setup.width;
+          operations = All-drop (IsOperation m.width) (length m.replies.items) m.operations is.setup.operations;
           few = omega (arith, fewer, few);
           room = omega (arith, fewer, room);
           most = is.setup.most;
@@ -69,6 +70,7 @@ renewed_rests l turns h ns t before m is idle goes_on few counts =
       mutator = record {
         sound = renewed_is m before is.mutator.sound is.rests none few;
         regions = is.mutator.regions;
+        width = is.mutator.width;
         steady = still_steady m before m.phase is.rests none is.mutator.steady;
       };
       thread = is.thread;

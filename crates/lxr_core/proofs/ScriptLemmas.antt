@@ -18,7 +18,7 @@ use Rattle.lxr_actor.specs.Run.{acted, change, event, happened, of_event, run}
 use Rattle.lxr_mutator.specs.Mutating.{Mutating, op_now}
 use Rattle.lxr_mutator.specs.Steps.{mutator_machine}
 use Rattle.lxr_mutator.specs.Mutators.{IsFull, again}
-use Rattle.lxr_mutator.specs.Orders.{ordered, takes_order, with_order}
+use Rattle.lxr_mutator.specs.Orders.{ordered, ordered_if, takes_order, with_order}
 use Rattle.lxr_mutator.proofs.OrderLemmas.{orders_by_rule}
 use Rattle.lxr_mutator.specs.Laws.{StepsByRule}
 use Rattle.lxr_mutator.specs.Laws.StepsByRule.{does_one, finds_asked, finds_end, gave_up, goes_on, stands_still}
@@ -34,7 +34,8 @@ use Rattle.lxr_core_invariant.proofs.ShowingLemmas.{set_elsewhere, set_here}
 use Rattle.lxr_core.specs.declared.actors.AnyActor.{AnyActor}
 use Rattle.lxr_core.specs.declared.actors.AnyActor.TheVariants as any
 use Rattle.lxr_core.specs.Actors.{any_machine, mutators_in, script_of}
-use Rattle.lxr_core.specs.Starting.{HaveStarted, registers_in, started_again}
+use Rattle.lxr_image.specs.Registers.{row_in}
+use Rattle.lxr_core.specs.Starting.{HaveStarted, started_again}
 use Rattle.lxr_core.specs.Filling.{unfilled}
 use Rattle.lxr_core.specs.Opening.{Opens}
 use Rattle.lxr_core.specs.Ordering.{AreFull, IsAskedBesides, OrdersAreAsked, ScriptsGoOn, ScriptsStay, ordered_in, orders_of, taken, taken_at, taken_by}
@@ -132,7 +133,7 @@ started_keep (any.Tracer d) registers = tracer d (trace_again d)
 started_orders : (places : List Place) (before after : List AnyActor) → HaveStarted places before after (length before) → orders_of (mutators_in after) ≡ orders_of (mutators_in before)
 started_orders places before after have =
     same_orders before after have.as_many
-    (λ i a at. (started_again a (registers_in places i), have.started i a at (slice_get_within before i a at), started_keep a (registers_in places i)))
+    (λ i a at. (started_again a (row_in places i), have.started i a at (slice_get_within before i a at), started_keep a (row_in places i)))
 
 -- whether a pocket is filled says nothing of mutators
 pub unfilled_mutators : (actors : List AnyActor) → mutators_in (map unfilled actors) ≡ mutators_in actors
@@ -232,9 +233,6 @@ kept_gets : (m x : Mutating) → Keeps m x → Gets m x
 kept_gets m x same = ([], ap (λ (z : List Op × ℕ). z.0) same ∙ sym (append-nil m.operations))
 
 -- an order asks it for one operation more, or for none
-abbrev ordered_if : Mutating → Op → Bool → Mutating × Bool
-ordered_if m o takes = if takes then (with_order m o, true) else (m, false)
-
 order_gets_by : (m : Mutating) (o : Op) (takes : Bool) → Gets m (ordered_if m o takes).0
 order_gets_by m o true = (o ∷ [], refl)
 order_gets_by m o false = ([], sym (append-nil m.operations))

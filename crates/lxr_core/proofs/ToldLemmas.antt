@@ -22,23 +22,16 @@ use Rattle.lxr_mutator.specs.Mutating.{Mutating, has_collected, is_collected, is
 use Rattle.lxr_mutator.specs.Naming.{all_told_as, blank, blank_end, looks_up, without_names}
 use Rattle.lxr_mutator.specs.Operating.{index_of, shape_made}
 use Rattle.lxr_mutator.proofs.NamelessLemmas.{so_without_names}
+use Rattle.lxr_mutator.proofs.NamingLemmas.{blank_again}
 use Rattle.lxr_core_invariant.specs.Events.{base_of, takes_reference}
 use Rattle.lxr_core_invariant.specs.ThreadStates.{AtReference, AtValue, Makes, Stage, ThreadState, Through, Works}
 use Rattle.lxr_core_sim_mutator.specs.Showing.{HasTold, IsMutatorOf, IsNew, IsNewOfLine, IsSteadyIn, reason_by, stage_in, thread_state_of, told_by, told_in}
 
 -- ---- replies without names
 
--- a reply without its name has none to lose
-blank_twice : (r : Reply) → blank (blank r) ≡ blank r
-blank_twice (reply.Loaded (Some n)) = refl
-blank_twice (reply.Loaded None) = refl
-blank_twice (reply.Swapped (Some n)) = refl
-blank_twice (reply.Swapped None) = refl
-blank_twice r = refl
-
--- so it is of an end
+-- an end without a name has none to lose
 blank_end_twice : (e : Option MutEnd) → blank_end (blank_end e) ≡ blank_end e
-blank_end_twice (Some (ends.OpDone r)) = ap (λ z. Some (ends.OpDone z)) (blank_twice r)
+blank_end_twice (Some (ends.OpDone r)) = ap (λ z. Some (ends.OpDone z)) (blank_again r)
 blank_end_twice e = refl
 
 -- it is through for the same reason
@@ -150,6 +143,7 @@ pub of_without : (l : Limits) (m : Mutating) → IsMutatorOf l m → IsMutatorOf
 of_without l m is = record {
   sound = (so_without_names m).0 is.sound;
   regions = is.regions;
+  width = is.width;
   steady = steady_still m (without_names m) (sym (now_without m)) refl refl m.phase (blank_ended m.end) (blank_waits m.end) is.steady;
 }
 
@@ -157,6 +151,7 @@ pub of_with : (l : Limits) (m : Mutating) → IsMutatorOf l (without_names m) �
 of_with l m is = record {
   sound = (so_without_names m).1 is.sound;
   regions = is.regions;
+  width = is.width;
   steady = steady_still (without_names m) m (now_without m) refl refl m.phase (ap blank_end) (ap blank_end) is.steady;
 }
 

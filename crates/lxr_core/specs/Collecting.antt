@@ -1,13 +1,16 @@
 -- What a space takes of mutators as an epoch closes.
-use Rattle.std.specs.Prelude.{◌≡◌, ℕ, ◌+◌, ◌*◌, ◌^◌, ◌<◌, ◌≤◌, ⊤, true, Some, List, [], ◌∷◌, ◌++◌, length, slice_get, take}
+use Rattle.std.specs.Prelude.{◌≡◌, ℕ, ◌+◌, ◌-◌, ◌*◌, ◌^◌, ◌<◌, ◌≤◌, ⊤, true, Some, List, [], ◌∷◌, ◌++◌, length, slice_get, take, drop}
 use Rattle.std.specs.List.{flat_map}
+use Rattle.lxr_layout.specs.declared.TheConstants.{REGISTERS}
 use Rattle.lxr_layout.specs.declared.runs.LogEntry.{LogEntry}
 use Rattle.lxr_layout.specs.declared.Place.{Place}
+use Rattle.lxr_layout.specs.declared.limits.Limits.{Limits}
 use Rattle.lxr_base.specs.Roomy.{emptied}
 use Rattle.lxr_image.specs.declared.space.Space.{Space}
+use Rattle.lxr_image.specs.Registers.{with_row}
 use Rattle.lxr_image.specs.declared.space.Tally.{Tally}
-use Rattle.lxr_alloc.specs.declared.TheConstants.{MOST_OPERATIONS}
 use Rattle.lxr_mutator.specs.declared.phases.MutTally.{MutTally}
+use Rattle.lxr_mutator.specs.Dialogues.{most_operations}
 use Rattle.lxr_mutator.specs.Mutating.{Mutating, rests_in, tally_of}
 use Rattle.lxr_mutator.specs.Mutators.{no_spans}
 use Rattle.lxr_core.specs.declared.actors.AnyActor.{AnyActor}
@@ -30,10 +33,11 @@ actor_given_up (any.Tracer d) = any.Tracer d
 abbrev pub tallied : Tally → MutTally → Tally
 tallied t done = record t { news = t.news + done.news; loads = t.loads + done.loads; stores = t.stores + done.stores }
 
--- a space that has taken the registers, the entries and the tally of a mutator, behind those that it had
+-- a space that has taken the registers of a mutator in place of those that its thread had, and the entries and the tally of the mutator to
+-- those that it had
 abbrev pub taken_of : Space → Mutating → Space
 taken_of s m = record s {
-  registers = record s.registers { items = s.registers.items ++ m.registers };
+  registers = record s.registers { items = with_row s.registers.items (m.thread - 1) m.registers };
   logged = record s.logged { items = s.logged.items ++ m.log.items };
   tally = tallied s.tally (tally_of m.replies.items);
 }
@@ -44,26 +48,28 @@ taken_of_actor s (any.Mutator m) = taken_of s m
 taken_of_actor s (any.Decrementer d) = s
 taken_of_actor s (any.Tracer d) = s
 
--- a mutator may give up what it has, in a space where logs have so much room
-pub record MayGive (room : ℕ) (m : Mutating) : Type 0 where
+-- a mutator may give up what it has, in a space of these limits
+pub record MayGive (l : Limits) (m : Mutating) : Type 0 where
   pub rests : rests_in m.phase ≡ true
-  pub sixteen : length m.registers ≡ 16
-  pub log : length m.log.items ≤ room
-  pub replies : length m.replies.items ≤ MOST_OPERATIONS + 1
+  pub as_many : length m.registers ≡ REGISTERS
+  pub width : m.width ≡ l.registers
+  pub log : length m.log.items ≤ l.log
+  pub replies : length m.replies.items ≤ most_operations m.thread + 2
 
 -- a space has room for what another mutator gives
 pub record MayTake (s : Space) (m : Mutating) : Type 0 where
-  pub registers : length s.registers.items + 16 ≤ s.registers.room
+  pub registers : (1 ≤ m.thread) × (REGISTERS * (m.thread - 1) + REGISTERS ≤ length s.registers.items)
+  pub width : s.registers.width ≡ s.limits.registers
   pub logged : length s.logged.items + length m.log.items ≤ s.logged.room
-  pub news : s.tally.news ≤ 2 ^ 34
-  pub loads : s.tally.loads ≤ 2 ^ 34
-  pub stores : s.tally.stores ≤ 2 ^ 34
+  pub news : s.tally.news ≤ 2 ^ 32
+  pub loads : s.tally.loads ≤ 2 ^ 32
+  pub stores : s.tally.stores ≤ 2 ^ 32
 
 -- an actor may give up what it has, and a space has room for it: a helper gives nothing
-abbrev pub ActorMayGive : ℕ → AnyActor → Type 0
-ActorMayGive room (any.Mutator m) = MayGive room m
-ActorMayGive room (any.Decrementer d) = ⊤
-ActorMayGive room (any.Tracer d) = ⊤
+abbrev pub ActorMayGive : Limits → AnyActor → Type 0
+ActorMayGive l (any.Mutator m) = MayGive l m
+ActorMayGive l (any.Decrementer d) = ⊤
+ActorMayGive l (any.Tracer d) = ⊤
 
 abbrev pub MayTakeOf : Space → AnyActor → Type 0
 MayTakeOf s (any.Mutator m) = MayTake s m
@@ -99,21 +105,24 @@ all_registers mutators = flat_map (λ m. m.registers) mutators
 abbrev pub all_entries : List Mutating → List LogEntry
 all_entries mutators = flat_map (λ m. m.log.items) mutators
 
--- a space that has the registers, the entries and the tally of these mutators
+-- a space that has the registers of these mutators, of the first threads, in place of those that it had, and their entries and tally
 abbrev pub holding : Space → List Mutating → Space
 holding s mutators = record s {
-  registers = record s.registers { items = all_registers mutators };
+  registers = record s.registers { items = all_registers mutators ++ drop (REGISTERS * length mutators) s.registers.items };
   logged = record s.logged { items = all_entries mutators };
   tally = tally_with s.tally mutators;
 }
 
--- there are no more mutators than a space has room for, and each may give up what it has
+-- there is one mutator for each thread whose registers a space has, thread 1 first, the space has room for their entries, and each may give up
+-- what it has
 pub record MayAllGive (s : Space) (actors : List AnyActor) : Type 0 where
   pub order : AreInOrder actors
+  pub threads : (i : ℕ) (m : Mutating) → slice_get (mutators_in actors) i ≡ Some m → m.thread ≡ i + 1
   pub few : length (mutators_in actors) ≤ 255
-  pub registers : 16 * length (mutators_in actors) ≤ s.registers.room
+  pub registers : length s.registers.items ≡ REGISTERS * length (mutators_in actors)
+  pub width : s.registers.width ≡ s.limits.registers
   pub logged : length (mutators_in actors) * s.limits.log ≤ s.logged.room
-  pub each : (i : ℕ) (m : Mutating) → slice_get (mutators_in actors) i ≡ Some m → MayGive s.limits.log m
+  pub each : (i : ℕ) (m : Mutating) → slice_get (mutators_in actors) i ≡ Some m → MayGive s.limits m
 
 -- the first so many actors have given up what they had, and the space has it
 pub record HaveGiven (start : Space) (before : List AnyActor) (now : Space) (after : List AnyActor) (count : ℕ) : Type 0 where

@@ -23,7 +23,7 @@ pub record MayOpen (g : AbstractState) (space : Space) (actors : List AnyActor) 
   pub listed : IsListed space
   pub fit : FitSpace space.limits g.moment.state.graph actors
 
--- It is opened: the pause word is clear, each mutator has begun again with its sixteen registers, and each helper with an empty
+-- It is opened: the pause word is clear, each mutator has begun again with its 256 registers, and each helper with an empty
 -- pocket and without an end; then tracers' pockets were filled. Nothing else of the space or of the actors has changed.
 pub record Opens (before after : Space) (resting started : List AnyActor) : Type 0 where
   pub space : Turns before after (record (tables_of before) { cursors = changed (tables_of before).cursors PAUSE_WORD 0 })

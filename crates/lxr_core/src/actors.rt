@@ -3,6 +3,7 @@ ghost use Rattle.std.specs.Prelude.{◌≡◌, ◌*◌, ◌≤◌};
 ghost use Rattle.std.specs.List.{All};
 ghost use Rattle.std.specs.Option.{option_copied};
 ghost use Rattle.lxr_layout.specs.declared.TheConstants.{GRANULES_IN_BLOCK};
+ghost use Rattle.lxr_image.specs.Registers.{row_in};
 ghost use Rattle.lxr_image.specs.Spaces.{IsSpace, tables_of};
 ghost use Rattle.lxr_image_search.specs.Search.{AvoidsFree};
 ghost use Rattle.lxr_image_search.specs.declared.Wanted.TheVariants.{ToScan};
@@ -10,15 +11,14 @@ ghost use Rattle.lxr_mutator.specs.Mutators.{IsHeld};
 ghost use Rattle.lxr_core.specs.Actors.{mutator_of};
 ghost use Rattle.lxr_core.specs.Collecting.{ActorMayGive, MayTakeOf, actor_given_up, taken_of_actor};
 ghost use Rattle.lxr_core.specs.Filling.{FillsActor, MayFill};
-ghost use Rattle.lxr_core.specs.Starting.{HasRegisters, MayStart, registers_in, started_again};
+ghost use Rattle.lxr_core.specs.Starting.{HasRegisters, MayStart, started_again};
 
 use crate::closing::collect;
 use crate::filling::fill_pocket;
-use crate::opening::registers_of;
 use lxr_actor::{Action, Actor};
 use lxr_decrement::Decrementer;
 use lxr_graph::Op;
-use lxr_image::Space;
+use lxr_image::{RegisterFile, Space};
 use lxr_layout::Place;
 use lxr_mutator::Mutator;
 use lxr_trace::Tracer;
@@ -43,15 +43,17 @@ impl AnyActor {
         }
     }
 
-    /// A new epoch begins: the mutator of a number has its registers of these places, and a helper has an empty pocket.
-    pub(crate) fn start_again(&mut self, places: &[Place], number: usize)
+    /// A new epoch begins: the mutator of a number has its registers of these, and a helper has an empty pocket.
+    pub(crate) fn start_again(&mut self, registers: &RegisterFile, number: usize)
         requires rests { MayStart self.old }
-        requires registers { HasRegisters places.now number self.old }
-        requires held { All IsHeld places.now }
-        ensures { self.new ≡ started_again self.old (registers_in places.now number) }
+        requires registers { HasRegisters registers.now number self.old }
+        requires held { All IsHeld registers.now.items }
+        ensures { self.new ≡ started_again self.old (row_in registers.now.items number) }
     {
         match self {
-            AnyActor::Mutator(mutator) => mutator.start_again(registers_of(places, number)),
+            AnyActor::Mutator(mutator) => {
+                mutator.start_again(registers.row(number), registers.in_use(number));
+            }
             AnyActor::Decrementer(decrementer) => decrementer.start_again(),
             AnyActor::Tracer(tracer) => tracer.start_again(),
         }
@@ -74,7 +76,7 @@ impl AnyActor {
 
     /// Gives up what it has: a mutator's registers, its log and its tally go to the space. A helper stays as it is.
     pub(crate) fn give_up(&mut self, space: &mut Space)
-        requires gives { ActorMayGive space.old.limits.log self.old }
+        requires gives { ActorMayGive space.old.limits self.old }
         requires takes { MayTakeOf space.old self.old }
         ensures space { space.new ≡ taken_of_actor space.old self.old }
         ensures actor { self.new ≡ actor_given_up self.old }

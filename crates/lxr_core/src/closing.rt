@@ -1,5 +1,7 @@
 //! The closing of an epoch.
-ghost use Rattle.std.specs.Prelude.{◌≡◌, ◌+◌, ◌^◌, ◌++◌, ◌<◌, ◌≤◌, length};
+ghost use Rattle.std.specs.Prelude.{◌≡◌, ◌+◌, ◌-◌, ◌*◌, ◌^◌, ◌++◌, ◌<◌, ◌≤◌, length};
+ghost use Rattle.lxr_layout.specs.declared.TheConstants.{REGISTERS};
+ghost use Rattle.lxr_image.specs.Registers.{with_row};
 ghost use Rattle.lxr_core_invariant.specs.EpochStates.{Beginning};
 ghost use Rattle.lxr_core.specs.Actors.{mutators_in};
 ghost use Rattle.lxr_core.specs.Closing.{Closes, IsPauseExplained, IsPauseWanted, MayClose};
@@ -9,7 +11,7 @@ ghost use Rattle.lxr_core.specs.Executions.{Execution};
 use crate::actors::AnyActor;
 use lxr_barrier::Log;
 use lxr_core_close::hand_out_drawn;
-use lxr_image::{Entries, Places, Space, Tally};
+use lxr_image::{Entries, RegisterFile, Space, Tally};
 use lxr_mutator::{MutTally, Mutator};
 
 /// Closes an epoch in which all actors rest: the space takes each mutator's registers, log and tally, and hands out what
@@ -28,7 +30,6 @@ fn collect_all(space: &mut Space, actors: &mut [AnyActor])
     requires { MayAllGive space.old actors.old }
     ensures { HaveGiven space.old actors.old space.new actors.new (length actors.old) }
 {
-    space.registers.clear();
     space.logged.clear();
     space.tally.news = 0;
     space.tally.loads = 0;
@@ -38,13 +39,14 @@ fn collect_all(space: &mut Space, actors: &mut [AnyActor])
     }
 }
 
-/// Takes what a mutator has, behind what the space has.
+/// Takes what a mutator has: its registers in place of those that its thread had, and all else behind what the space has.
 pub(crate) fn collect(space: &mut Space, mutator: &mut Mutator)
-    requires gives { MayGive space.old.limits.log mutator.old }
+    requires gives { MayGive space.old.limits mutator.old }
     requires takes { MayTake space.old mutator.old }
     ensures space { space.new ≡ taken_of space.old mutator.old }
     ensures mutator { mutator.new ≡ given_up mutator.old }
 {
+    mutator.recount_registers();
     collect_registers(&mut space.registers, mutator);
     collect_entries(&mut space.logged, mutator.log());
     add(&mut space.tally, mutator.tally());
@@ -52,15 +54,15 @@ pub(crate) fn collect(space: &mut Space, mutator: &mut Mutator)
     mutator.empty_spans();
 }
 
-/// Takes a mutator's registers, behind those that are there.
-fn collect_registers(registers: &mut Places, mutator: &Mutator)
-    requires sixteen { length mutator.now.registers ≡ 16 }
-    requires room { length registers.old.items + 16 ≤ registers.old.room }
-    ensures { registers.new ≡ record registers.old { items = registers.old.items ++ mutator.now.registers } }
+/// Takes a mutator's registers in place of those that its thread had.
+fn collect_registers(registers: &mut RegisterFile, mutator: &Mutator)
+    requires as_many { length mutator.now.registers ≡ REGISTERS }
+    requires width { mutator.now.width ≡ registers.old.width }
+    requires thread { (1 ≤ mutator.now.thread) × (REGISTERS * (mutator.now.thread - 1) + REGISTERS ≤ length registers.old.items) }
+    ensures { registers.new ≡ record registers.old { items = with_row registers.old.items (mutator.now.thread - 1) mutator.now.registers } }
 {
-    for number in 0..16 {
-        registers.push(mutator.register(number));
-    }
+    let thread = usize::from(mutator.thread()) - 1;
+    registers.put_row(thread, mutator.registers(), mutator.registers_in_use());
 }
 
 /// Takes a log's entries, behind those that are there.

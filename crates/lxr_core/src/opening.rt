@@ -1,18 +1,19 @@
 //! The opening of an epoch.
 ghost use Rattle.std.specs.Prelude.{◌≡◌, ◌+◌, ◌*◌, ◌<◌, ◌≤◌, length};
 ghost use Rattle.std.specs.List.{All};
+ghost use Rattle.lxr_layout.specs.declared.TheConstants.{REGISTERS};
 ghost use Rattle.lxr_mutator.specs.Mutators.{IsHeld};
 ghost use Rattle.lxr_invariant.specs.AbstractState.{AbstractState};
 ghost use Rattle.lxr_core_invariant.specs.EpochStates.{Beginning};
 ghost use Rattle.lxr_core.specs.Actors.{AreInOrder, mutators_in};
 ghost use Rattle.lxr_core.specs.Executions.{HoldsExecution};
 ghost use Rattle.lxr_core.specs.Opening.{Begins, MayOpen, Opens, execution_at};
-ghost use Rattle.lxr_core.specs.Starting.{HaveStarted, MayAllStart, registers_in};
+ghost use Rattle.lxr_core.specs.Starting.{HaveStarted, MayAllStart, MayNameAll};
 
 use crate::actors::AnyActor;
 use crate::filling::fill_pockets;
-use lxr_image::Space;
-use lxr_layout::{PAUSE_WORD, Place};
+use lxr_image::{RegisterFile, Space};
+use lxr_layout::PAUSE_WORD;
 
 /// Opens an epoch: no pause is asked for, each mutator has its registers again and begins anew with no operation done
 /// in this epoch, unless it has done its end, and each helper has an empty pocket and no end. Then tracers' pockets are
@@ -26,34 +27,23 @@ pub fn open_epoch(space: &mut Space, actors: &mut [AnyActor])
 {
     // The number of pauses has 32 bits, so the cursor of remembered entries doesn't come round in the epoch.
     let _pauses = space.pauses;
+    space.registers.unnamed_are_nil();
     space.put_cursor(PAUSE_WORD, 0);
-    start_all(actors, space.registers.as_slice());
+    start_all(actors, &space.registers);
     fill_pockets(space, actors);
 }
 
-/// Each actor begins again, a mutator with its sixteen registers.
-fn start_all(actors: &mut [AnyActor], places: &[Place])
+/// Each actor begins again, a mutator with its 256 registers.
+fn start_all(actors: &mut [AnyActor], registers: &RegisterFile)
     requires order { AreInOrder actors.old }
-    requires registers { length places.now ≡ 16 * length (mutators_in actors.old) }
+    requires registers { length registers.now.items ≡ REGISTERS * length (mutators_in actors.old) }
+    requires width { MayNameAll registers.now.width (mutators_in actors.old) }
     requires few { length (mutators_in actors.old) ≤ 255 }
-    requires held { All IsHeld places.now }
+    requires held { All IsHeld registers.now.items }
     requires rest { MayAllStart actors.old }
-    ensures { HaveStarted places.now actors.old actors.new (length actors.old) }
+    ensures { HaveStarted registers.now.items actors.old actors.new (length actors.old) }
 {
     for number in 0..actors.len() {
-        actors[number].start_again(places, number);
+        actors[number].start_again(registers, number);
     }
-}
-
-/// The registers of the thread of a number.
-pub(crate) fn registers_of(places: &[Place], number: usize) -> [Place; 16]
-    requires number { number < 255 }
-    requires registers { 16 * (number + 1) ≤ length places.now }
-    ensures { result ≡ registers_in places.now number }
-{
-    let first = 16 * number;
-    let end = first + 16;
-    let mut registers = [Place::NIL; 16];
-    registers.copy_from_slice(&places[first..end]);
-    registers
 }

@@ -129,7 +129,9 @@ table_entry_below l r are (Cursor number) h = below l 14 r.cursors number (lit< 
 -- a space has fewer than 2^32 words
 total_fits : (l : Limits) → AreLimits l → region_begin l all_regions < 2 ^ 32
 total_fits l are =
-    let decs = mul-le l.threads (l.log + 16) 255 65552 are.threads.1 (omega arith) in
+    let log = are.log.1 in
+    let registers = are.registers.1 in
+    let decs = mul-le l.threads (l.log + l.registers) 255 65792 are.threads.1 (omega (arith, log, registers)) in
     omega arith
 
 -- so the word of an entry has its index

@@ -65,7 +65,7 @@ IsTableEntry l (Out line) = line < LINES_IN_BLOCK * l.blocks
 IsTableEntry l (State block) = block < l.blocks
 IsTableEntry l (Run at) = at < 64 * l.blocks
 IsTableEntry l (Free at) = at < l.blocks
-IsTableEntry l (Decrement at) = at < l.threads * (l.log + 16)
+IsTableEntry l (Decrement at) = at < l.threads * (l.log + l.registers)
 IsTableEntry l (Remembered at) = at < l.remember
 IsTableEntry l (Cursor number) = number < 16
 

@@ -5,7 +5,7 @@ use Rattle.std.specs.Option.{option_map}
 use Rattle.std.proofs.lemmas.Bool.{false_from_ne_true}
 use Rattle.std.proofs.lemmas.Bool.Decides.{leb_tells}
 use Rattle.std.proofs.lemmas.List.{length-map}
-use Rattle.lxr_layout.specs.declared.TheConstants.{DECREMENT_COUNT, DECREMENT_CURSOR, FREE_BLOCK_COUNT, GRANULES_IN_BLOCK, GRANULES_IN_LINE, LINES_IN_BLOCK, RUN_COUNT, TRACING_WORD}
+use Rattle.lxr_layout.specs.declared.TheConstants.{DECREMENT_COUNT, DECREMENT_CURSOR, FREE_BLOCK_COUNT, GRANULES_IN_BLOCK, GRANULES_IN_LINE, LINES_IN_BLOCK, REGISTERS, RUN_COUNT, TRACING_WORD}
 use Rattle.lxr_layout.specs.declared.limits.Limits.{Limits}
 use Rattle.lxr_layout.specs.declared.LogEntry.{LogEntry}
 use Rattle.lxr_layout.specs.declared.Place.{Place}
@@ -16,6 +16,7 @@ use Rattle.lxr_graph.proofs.NameSets.{not_both}
 use Rattle.lxr_image.specs.declared.space.Space.{Space}
 use Rattle.lxr_image.specs.declared.space.Tally.{Tally}
 use Rattle.lxr_base.specs.Roomy.{Roomy}
+use Rattle.lxr_image.specs.Registers.{Registers}
 use Rattle.lxr_image.specs.Tables.{Tables, tables_in}
 use Rattle.lxr_image.specs.Spaces.{IsSpace, tables_of}
 use Rattle.lxr_image.specs.Reads.{granule_of}
@@ -193,8 +194,8 @@ reuse_kept b s u is hands n o k member covers = elim (hands.lines_are (k / GRANU
 
 -- ---- registers and logs
 
--- there are sixteen registers for each mutator, in the model too
-model_registers : (b : Beginning) (s : EpochState) → IsEpoch b s → length (moment_of b s).state.registers ≡ 16 * (limits_of b).threads
+-- there are 256 registers for each mutator, in the model too
+model_registers : (b : Beginning) (s : EpochState) → IsEpoch b s → length (moment_of b s).state.registers ≡ REGISTERS * (limits_of b).threads
 model_registers b s is =
     let opened = is.begins.between.safepoint.holds in
     let one = one_pause b s is in
@@ -203,16 +204,16 @@ model_registers b s is =
     as_many (length b.space.registers.items) (length b.abstract_state.moment.state.registers) (length (moment_of b s).state.registers) (length b.abstract_state.moment.state.graph) (length b.abstract_state.moment.last.graph)
     (length (moment_of b s).state.graph) (limits_of b).threads opened.as_many.0 words opened.follows.registers opened.follows.rows is.lives.registers (is.lives.rows ∙ ap (λ z. length z.graph) one.last)
   where
-    as_many : (words before now rows last rows_now threads : ℕ) → words ≡ 16 * threads → words ≡ before → before ≡ 16 * (rows - 1) → rows ≡ last → now ≡ 16 * (rows_now - 1) → rows_now ≡ last → now ≡ 16 * threads
+    as_many : (words before now rows last rows_now threads : ℕ) → words ≡ REGISTERS * threads → words ≡ before → before ≡ REGISTERS * (rows - 1) → rows ≡ last → now ≡ REGISTERS * (rows_now - 1) → rows_now ≡ last → now ≡ REGISTERS * threads
     as_many words before now rows last rows_now threads a c d e f g = omega arith
 
 -- the registers of mutators are places of what the model's hold
 registers_held : (b : Beginning) (s : EpochState) → IsEpoch b s → ArePlacesOf s.at (registers_of s.thread_states) (moment_of b s).state.registers
 registers_held b s is =
-    registers_are_places s.at (moment_of b s).state s.thread_states (model_registers b s is ∙ ap (λ z. 16 * z) (sym is.called.as_many)) is.called.threads is.image.registers
+    registers_are_places s.at (moment_of b s).state s.thread_states (model_registers b s is ∙ ap (λ z. REGISTERS * z) (sym is.called.as_many)) is.called.threads is.image.registers
 
 -- so they are as many
-registers_many : (b : Beginning) (s : EpochState) → IsEpoch b s → length (registers_of s.thread_states) ≡ 16 * (limits_of b).threads
+registers_many : (b : Beginning) (s : EpochState) → IsEpoch b s → length (registers_of s.thread_states) ≡ REGISTERS * (limits_of b).threads
 registers_many b s is =
     sym (length-map (registers_of s.thread_states) (λ (p : Place). p.0)) ∙ ap length (registers_held b s is) ∙ length-map (moment_of b s).state.registers (place_word s.at) ∙ model_registers b s is
 
@@ -228,7 +229,7 @@ logs_fit b s is =
 abbrev pub closed_space : Beginning → EpochState → List ℕ → Tally → Space
 closed_space b s words tally = record b.space {
   words = words;
-  registers = record { items = registers_of s.thread_states; room = b.space.registers.room };
+  registers = record { items = registers_of s.thread_states; width = b.space.registers.width };
   logged = record { items = logs_of s.thread_states; room = b.space.logged.room };
   tally = tally;
 }
@@ -321,12 +322,12 @@ is_at_safepoint b s words tally is closing counted runs hands =
 -- the space is the closed one of its words
 is_closed : (b : Beginning) (s : EpochState) (now after : Space) → HasCollected b s now → DrawnIsOut b.space now after → after ≡ closed_space b s after.words now.tally
 is_closed b s now after has out =
-    out.rest ∙ ap (λ z. with_words z after.words) has.rest ∙ ap (λ r. collected r now.logged) has.registers ∙ ap (λ l. collected (record { items = registers_of s.thread_states; room = b.space.registers.room }) l) has.logged
+    out.rest ∙ ap (λ z. with_words z after.words) has.rest ∙ ap (λ r. collected r now.logged) has.registers ∙ ap (λ l. collected (record { items = registers_of s.thread_states; width = b.space.registers.width }) l) has.logged
   where
     with_words : Space → List ℕ → Space
     with_words z words = record z { words = words }
 
-    collected : Roomy Place → Roomy LogEntry → Space
+    collected : Registers → Roomy LogEntry → Space
     collected registers logged = record b.space { words = after.words; registers = registers; logged = logged; tally = now.tally }
 
 -- so the space is at a safepoint before a pause

@@ -33,7 +33,7 @@ closed_state b s = record b.abstract_state { moment = moment_of b s; at = s.at }
 -- Of what the epoch began with, words, registers, entries and the tally alone have changed.
 pub record HasCollected (b : Beginning) (s : EpochState) (now : Space) : Type 0 where
   pub tables : tables_of now ≡ s.tables
-  pub registers : now.registers ≡ record { items = registers_of s.thread_states; room = b.space.registers.room }
+  pub registers : now.registers ≡ record { items = registers_of s.thread_states; width = b.space.registers.width }
   pub logged : now.logged ≡ record { items = logs_of s.thread_states; room = b.space.logged.room }
   pub rest : now ≡ record b.space { words = now.words; registers = now.registers; logged = now.logged; tally = now.tally }
 

@@ -109,7 +109,7 @@ header_within : (blocks p refs : ℕ) → 2 * (p - 1) + 1 + refs ≤ 4096 * bloc
 header_within blocks p refs within = omega arith
 
 -- a cursor that is drawn from by fewer than 2 ^ 63 decrementers past a short list stays a word
-cursor_within : (cursor soon own count many : ℕ) → cursor + soon ≤ count + many → own ≤ soon → own ≡ 1 → many < 2 ^ 63 → count ≤ 255 * 65552 → cursor + 1 < 2 ^ 64
+cursor_within : (cursor soon own count many : ℕ) → cursor + soon ≤ count + many → own ≤ soon → own ≡ 1 → many < 2 ^ 63 → count ≤ 255 * 65792 → cursor + 1 < 2 ^ 64
 cursor_within cursor soon own count many drawn among one few short = omega arith
 
 module _ (l : Limits) (t : Tables) (ds : List Decrementing) (m : Moment) (at : Name → ℕ) (ground : IsGround l t m at) (was : AreCounted l.blocks t ds m at) where
@@ -133,11 +133,12 @@ module _ (l : Limits) (t : Tables) (ds : List Decrementing) (m : Moment) (at : N
       subst (λ p. field_word p index < WORDS_IN_BLOCK * l.blocks) (sym is.done.stands) (omega (arith, as_many, lies, within))
 
   -- the list of decrements is short
-  short : t.cursors DECREMENT_COUNT ≤ 255 * 65552
+  short : t.cursors DECREMENT_COUNT ≤ 255 * 65792
   short =
       let fits = ground.decrements.fits in
       let log = ground.limits.log.1 in
-      let most = mul-le l.threads (l.log + 16) 255 65552 ground.limits.threads.1 (omega (arith, log)) in
+      let registers = ground.limits.registers.1 in
+      let most = mul-le l.threads (l.log + l.registers) 255 65792 ground.limits.threads.1 (omega (arith, log, registers)) in
       omega (arith, fits, most)
 
   -- the access of each step may be done

@@ -2,6 +2,7 @@
 -- is written changes by a store and a swap alone.
 use Rattle.std.proofs.Common.{◌≡◌, ℕ, ◌+◌, ◌-◌, ◌*◌, ◌<◌, ◌≤◌, refl, sym, ap, subst, ◌∙◌, arith, Bool, true, false, cond, List, length, nat_eq}
 use Rattle.std.specs.Prelude.{Some, None, ⊤, IsTrue}
+use Rattle.lxr_layout.specs.declared.TheConstants.{REGISTERS}
 use Rattle.lxr_layout.specs.declared.Name.{Name}
 use Rattle.lxr_layout.specs.declared.Place.{Place}
 use Rattle.lxr_graph.specs.declared.Op.{Op}
@@ -24,15 +25,15 @@ use Rattle.lxr_core_invariant.specs.Events.{at_once}
 -- ---- the moment after a call with the reply of a step
 
 -- the registers of a thread that has a row
-sixteen_there : (m : Moment) (t : ℕ) → FollowsPause m → 1 ≤ t → t < length m.state.graph → 16 * (t - 1) + 16 ≤ length m.state.registers
-sixteen_there m t follows some row = let registers = follows.registers in omega (arith, registers)
+row_there : (m : Moment) (t : ℕ) → FollowsPause m → 1 ≤ t → t < length m.state.graph → REGISTERS * (t - 1) + REGISTERS ≤ length m.state.registers
+row_there m t follows some row = let registers = follows.registers in omega (arith, registers)
 
 -- unreclaimed objects have as many references after a step as before
 pub step_keeps_refs : (m : Moment) (t : ℕ) (o : Op) → FollowsPause m → 1 ≤ t → t < length m.state.graph → (n : Name) → IsTrue (has m.unreclaimed n)
     → length (refs_of (object_at (state_after m.state t o (step m.state t o).1).graph n)) ≡ length (refs_of (object_at m.state.graph n))
 step_keeps_refs m t o follows some row n member =
     let old = follows.objects n member in
-    let new = (step_keeps m.state t o row (sixteen_there m t follows some row)).shapes n old.1 old.3 in
+    let new = (step_keeps m.state t o row (row_there m t follows some row)).shapes n old.1 old.3 in
     ap (λ (z : State). length (refs_of (object_at z.graph n))) (state_after_step m.state t o)
     ∙ ap (λ z. length (refs_of z)) new.1 ∙ new.2.refs ∙ sym (ap (λ z. length (refs_of z)) old.3)
 

@@ -27,7 +27,7 @@ answers_by at m v o r registers s e holds =
 
 -- registers hold the same in a state with the same registers
 pub same_registers : (s z : State) (at : Name → ℕ) (v : ThreadState) → HoldsRegisters s at v → z.registers ≡ s.registers → HoldsRegisters z at v
-same_registers s z at v holds same = subst (λ (rs : List (Option Name)). HoldsRegisters (record z { registers = rs }) at v) (sym same) (record { sixteen = holds.sixteen; places = holds.places })
+same_registers s z at v holds same = subst (λ (rs : List (Option Name)). HoldsRegisters (record z { registers = rs }) at v) (sym same) (record { as_many = holds.as_many; places = holds.places })
 
 -- a step that leaves all registers
 pub answers_still : (t : Tables) (blocks : ℕ) (at : Name → ℕ) (m : Moment) (v : ThreadState) (o : Op) (r : Reply) (s : State) → Acts t blocks at m v → step m.state v.thread o ≡ (s, r)

@@ -1,6 +1,7 @@
 -- Operations that need no further step are answered as the model does.
 use Rattle.std.proofs.Common.{◌≡◌, ℕ, ◌<◌, refl, ap, true, false, cond, List, length, nat_eq}
 use Rattle.std.specs.Prelude.{Option, Some, None, replicate, slice_set}
+use Rattle.lxr_layout.specs.declared.TheConstants.{REGISTERS}
 use Rattle.lxr_layout.specs.declared.Name.{Name}
 use Rattle.lxr_layout.specs.declared.Place.{Place}
 use Rattle.lxr_graph.specs.declared.Op.{Op}
@@ -31,14 +32,14 @@ bad_tells v base r registers e = elim (nat_eq (held v base).0 0) as (λ b. nat_e
     ] refl e
 
 -- so is an operation that the model answers so where its base register holds nothing
-bad_answers : (t : Tables) (blocks : ℕ) (at : Name → ℕ) (m : Moment) (v : ThreadState) (o : Op) (r : Reply) (base : ℕ) (registers : List Place) → Acts t blocks at m v → base < 16 → bad_at v base ≡ Some (r, registers)
+bad_answers : (t : Tables) (blocks : ℕ) (at : Name → ℕ) (m : Moment) (v : ThreadState) (o : Op) (r : Reply) (base : ℕ) (registers : List Place) → Acts t blocks at m v → base < REGISTERS → bad_at v base ≡ Some (r, registers)
     → (register_at m.state v.thread base ≡ None → step m.state v.thread o ≡ (m.state, reply.Bad)) → Answers at m v o r registers
 bad_answers t blocks at m v o r base registers known small e bad_step =
     let bad = bad_tells v base r registers e in
     answers_as at m v o reply.Bad r v.registers registers bad.1 bad.2 (answers_still t blocks at m v o reply.Bad m.state known (bad_step (base_nil t blocks at m v base known small bad.0)) refl)
 
 -- a register that is set to what another holds
-set_answers : (t : Tables) (blocks : ℕ) (at : Name → ℕ) (m : Moment) (v : ThreadState) (dest source : ℕ) → Acts t blocks at m v → dest < 16 → source < 16
+set_answers : (t : Tables) (blocks : ℕ) (at : Name → ℕ) (m : Moment) (v : ThreadState) (dest source : ℕ) → Acts t blocks at m v → dest < REGISTERS → source < REGISTERS
     → Answers at m v (op.Move dest source) reply.Moved (slice_set v.registers dest (held v source))
 set_answers t blocks at m v dest source known small_dest small_source =
     let w : Option Name = register_at m.state v.thread source in
@@ -46,13 +47,13 @@ set_answers t blocks at m v dest source known small_dest small_source =
     (set_holds m.state at v dest (length m.state.graph) (held v source) w known.holds known.thread known.row known.follows.registers small_dest (known.holds.places source small_source))
 
 -- a register that is set to nil
-nil_answers : (t : Tables) (blocks : ℕ) (at : Name → ℕ) (m : Moment) (v : ThreadState) (dest : ℕ) → Acts t blocks at m v → dest < 16 → Answers at m v (op.Nil dest) reply.Cleared (slice_set v.registers dest nil)
+nil_answers : (t : Tables) (blocks : ℕ) (at : Name → ℕ) (m : Moment) (v : ThreadState) (dest : ℕ) → Acts t blocks at m v → dest < REGISTERS → Answers at m v (op.Nil dest) reply.Cleared (slice_set v.registers dest nil)
 nil_answers t blocks at m v dest known small =
     answers_by at m v (op.Nil dest) reply.Cleared (slice_set v.registers dest nil) (with_register m.state v.thread dest None) refl
     (set_holds m.state at v dest (length m.state.graph) nil None known.holds known.thread known.row known.follows.registers small refl)
 
 -- two registers hold the same where they hold one place
-same_answers : (t : Tables) (blocks : ℕ) (at : Name → ℕ) (m : Moment) (v : ThreadState) (left right : ℕ) → Acts t blocks at m v → left < 16 → right < 16
+same_answers : (t : Tables) (blocks : ℕ) (at : Name → ℕ) (m : Moment) (v : ThreadState) (left right : ℕ) → Acts t blocks at m v → left < REGISTERS → right < REGISTERS
     → Answers at m v (op.Same left right) (reply.Same (nat_eq (held v left).0 (held v right).0)) v.registers
 same_answers t blocks at m v left right known small_left small_right =
     let same = same_by_place t blocks at m (register_at m.state v.thread left) (register_at m.state v.thread right) (held v left).0 (held v right).0 known.image
@@ -60,9 +61,9 @@ same_answers t blocks at m v left right known small_left small_right =
     answers_still t blocks at m v (op.Same left right) (reply.Same (nat_eq (held v left).0 (held v right).0)) m.state known (ap (λ b. (m.state, reply.Same b)) same) refl
 
 -- the end clears all registers
-end_answers : (t : Tables) (blocks : ℕ) (at : Name → ℕ) (m : Moment) (v : ThreadState) → Acts t blocks at m v → Answers at m v op.End reply.Ended (replicate 16 nil)
+end_answers : (t : Tables) (blocks : ℕ) (at : Name → ℕ) (m : Moment) (v : ThreadState) → Acts t blocks at m v → Answers at m v op.End reply.Ended (replicate REGISTERS nil)
 end_answers t blocks at m v known =
-    answers_by at m v op.End reply.Ended (replicate 16 nil) (record m.state { registers = cleared m.state.registers v.thread }) refl
+    answers_by at m v op.End reply.Ended (replicate REGISTERS nil) (record m.state { registers = cleared m.state.registers v.thread }) refl
     (cleared_holds m.state at v (length m.state.graph) known.thread known.row known.follows.registers)
 
 -- each operation that is done at once
@@ -93,8 +94,8 @@ answers t blocks at m v (op.Same left right) r registers known formed e =
 answers t blocks at m v op.Pause r registers known formed e = absurd (cc)
 answers t blocks at m v op.Collect r registers known formed e = absurd (cc)
 answers t blocks at m v op.End r registers known formed e =
-    let same = same_answer reply.Ended r (replicate 16 nil) registers e in
-    answers_as at m v op.End reply.Ended r (replicate 16 nil) registers same.0 same.1 (end_answers t blocks at m v known)
+    let same = same_answer reply.Ended r (replicate REGISTERS nil) registers e in
+    answers_as at m v op.End reply.Ended r (replicate REGISTERS nil) registers same.0 same.1 (end_answers t blocks at m v known)
 
 -- the operation in progress, where it is done at once
 pub at_once_answers : (t : Tables) (blocks : ℕ) (at : Name → ℕ) (m : Moment) (v : ThreadState) (o : Op) (r : Reply) (registers : List Place) → Acts t blocks at m v → Does v o → at_once v o ≡ Some (r, registers)

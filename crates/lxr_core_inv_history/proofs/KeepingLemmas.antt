@@ -53,7 +53,7 @@ others_stay b s i v o to is shown does stay j u ne now =
     let before = holds_at s.tables (limits_of b).blocks s.at to (moment_of b s) u other stay in
     let apart = threads_apart i j v.thread u.thread (is.called.threads i v shown) (is.called.threads j u now) ne in
     record {
-      sixteen = before.sixteen;
+      as_many = before.as_many;
       places = λ r within. before.places r within
           ∙ ap (place_word to) (sym (step_other st v.thread u.thread r (length st.graph) o (op_formed v o known.formed does) known.thread other.thread apart known.row within is.lives.registers));
     }

@@ -1,6 +1,7 @@
 -- A new object's name is new, and registers hold what they did where it is placed.
 use Rattle.std.proofs.Common.{◌≡◌, ℕ, ◌<◌, refl, sym, ap, ◌∙◌, true, false, cond, length}
 use Rattle.std.specs.Prelude.{Option, Some, None, IsTrue, slice_set}
+use Rattle.lxr_layout.specs.declared.TheConstants.{REGISTERS}
 use Rattle.lxr_layout.specs.declared.Name.{Name}
 use Rattle.lxr_layout.specs.declared.Shape.{Shape}
 use Rattle.lxr_graph.specs.declared.Op.TheVariants as op
@@ -40,14 +41,14 @@ members_stay t blocks at m v place n known member = ap (λ b. cond b place (at n
 -- registers hold the places of what they did wherever members stand where they did
 pub holds_at : (t : Tables) (blocks : ℕ) (at to : Name → ℕ) (m : Moment) (v : ThreadState) → Acts t blocks at m v → ((n : Name) → IsTrue (has (members m) n) → to n ≡ at n) → HoldsRegisters m.state to v
 holds_at t blocks at to m v known stay =
-    record { sixteen = known.holds.sixteen; places = λ r within. known.holds.places r within ∙ sym (same_word (register_at m.state v.thread r) (in_register m v.thread r known.follows)) }
+    record { as_many = known.holds.as_many; places = λ r within. known.holds.places r within ∙ sym (same_word (register_at m.state v.thread r) (in_register m v.thread r known.follows)) }
   where
     same_word : (w : Option Name) → IsHeld m w → place_word to w ≡ place_word at w
     same_word None member = refl
     same_word (Some n) member = stay n member
 
 -- a new object is answered by its name, and the register holds its place
-pub new_answers : (t : Tables) (blocks : ℕ) (at : Name → ℕ) (m : Moment) (v : ThreadState) (dest place : ℕ) (shape : Shape) → Acts t blocks at m v → dest < 16
+pub new_answers : (t : Tables) (blocks : ℕ) (at : Name → ℕ) (m : Moment) (v : ThreadState) (dest place : ℕ) (shape : Shape) → Acts t blocks at m v → dest < REGISTERS
     → Answers (placed at (next_name m.state.graph v.thread) place) m v (op.New dest shape) (reply.New (next_name m.state.graph v.thread)) (slice_set v.registers dest (record { 0 = place }))
 new_answers t blocks at m v dest place shape known small =
     let name : Name = next_name m.state.graph v.thread in
@@ -56,4 +57,4 @@ new_answers t blocks at m v dest place shape known small =
     let before = holds_at t blocks at to m v known (λ n member. members_stay t blocks at m v place n known member) in
     let here : place ≡ to name = sym (ap (λ b. cond b place (at name)) (same_itself name)) in
     answers_by to m v (op.New dest shape) (reply.New name) (slice_set v.registers dest (record { 0 = place })) (with_register made v.thread dest (Some name)) refl
-    (set_holds made to v dest (length m.state.graph) (record { 0 = place }) (Some name) (record { sixteen = before.sixteen; places = before.places }) known.thread known.row known.follows.registers small here)
+    (set_holds made to v dest (length m.state.graph) (record { 0 = place }) (Some name) (record { as_many = before.as_many; places = before.places }) known.thread known.row known.follows.registers small here)

@@ -1,6 +1,7 @@
 -- Operations on the object that a base register holds are answered as the model does.
 use Rattle.std.proofs.Common.{◌≡◌, ℕ, ◌+◌, ◌^◌, ◌%◌, ◌<◌, ◌≤◌, refl, sym, ap, subst, ◌∙◌, length, get_or}
 use Rattle.std.specs.Prelude.{Option, Some, None, slice_set}
+use Rattle.lxr_layout.specs.declared.TheConstants.{REGISTERS}
 use Rattle.lxr_layout.specs.declared.Name.{Name}
 use Rattle.lxr_layout.specs.declared.Place.{Place}
 use Rattle.lxr_layout.specs.Places.{field_word, place_in}
@@ -67,7 +68,7 @@ pub record Takes (t : Tables) (at : Name → ℕ) (m : Moment) (v : ThreadState)
   pub place_is : (place_in (t.heap (field_word place index))).0 ≡ place_word at found
 
 -- an operation that takes such a reference into a register, where it leads to a state with the registers of before but for this one
-take_answers : (t : Tables) (blocks : ℕ) (at : Name → ℕ) (m : Moment) (v : ThreadState) (o : Op) (r : Reply) (dest : ℕ) (found : Option Name) (s : State) → Acts t blocks at m v → dest < 16 → s.registers ≡ m.state.registers
+take_answers : (t : Tables) (blocks : ℕ) (at : Name → ℕ) (m : Moment) (v : ThreadState) (o : Op) (r : Reply) (dest : ℕ) (found : Option Name) (s : State) → Acts t blocks at m v → dest < REGISTERS → s.registers ≡ m.state.registers
     → step m.state v.thread o ≡ (with_register s v.thread dest found, r) → (p : Place) → p.0 ≡ place_word at found → Answers at m v o r (slice_set v.registers dest p)
 take_answers t blocks at m v o r dest found s known small same steps p place_is =
     answers_by at m v o r (slice_set v.registers dest p) (with_register s v.thread dest found) steps

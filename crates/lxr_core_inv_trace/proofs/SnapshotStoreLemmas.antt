@@ -3,6 +3,7 @@
 use Rattle.std.proofs.Common.{◌≡◌, ℕ, ◌<◌, ◌≤◌, refl, sym, ap, subst, ◌∙◌, inl, inr, ◌⊎◌, arith, Bool, true, false, cond, List, [], ◌∷◌, ◌++◌, IsTrue, length, nat_eq}
 use Rattle.std.specs.Prelude.{Some, None, if◌then◌else◌, is_some, slice_get, slice_index_or}
 use Rattle.std.proofs.lemmas.Option.{get_or_from_slice_get, slice_get_within}
+use Rattle.lxr_layout.specs.declared.TheConstants.{REGISTERS}
 use Rattle.lxr_layout.specs.declared.LogEntry.{LogEntry}
 use Rattle.lxr_layout.specs.declared.Name.{Name}
 use Rattle.lxr_layout.specs.declared.Place.{Place}
@@ -182,7 +183,7 @@ module _ (b : Beginning) (s : EpochState) (i : ℕ) (v : ThreadState) (is : IsEp
   nil_base base true answer q tells e = equal_numbers (held v base).0 0 tells
   nil_base base false answer q tells e = absurd (cc)
 
-  nil_never : (base : ℕ) (r : Reply) (registers : List Place) → base < 16 → bad_at v base ≡ Some (r, registers) → (n : Name) → register_at m.state v.thread base ≡ Some n → ⊥
+  nil_never : (base : ℕ) (r : Reply) (registers : List Place) → base < REGISTERS → bad_at v base ≡ Some (r, registers) → (n : Name) → register_at m.state v.thread base ≡ Some n → ⊥
   nil_never base r registers formed replies n holds =
       let nothing = nil_base base (nat_eq (held v base).0 0) (reply.Bad, v.registers) (r, registers) refl replies in
       let none = base_nil s.tables (limits_of b).blocks s.at m v base acting formed nothing in

@@ -4,7 +4,7 @@ use Rattle.std.specs.Prelude.{All, Option, Some, None, IsTrue, slice_get}
 use Rattle.std.specs.Option.{option_map_or}
 use Rattle.std.proofs.lemmas.List.{length-map}
 use Rattle.std.proofs.lemmas.Option.{slice_get_within}
-use Rattle.lxr_layout.specs.declared.TheConstants.{MOST_BLOCKS}
+use Rattle.lxr_layout.specs.declared.TheConstants.{MOST_BLOCKS, REGISTERS}
 use Rattle.lxr_layout.specs.declared.Name.{Name}
 use Rattle.lxr_layout.specs.declared.Place.{Place}
 use Rattle.lxr_graph.specs.declared.Op.{Op}
@@ -51,8 +51,8 @@ same_or_longer threads every h k (called l t o r before is) = elim (same_or_long
   | inr longer ↦ inr (omega (arith, longer))
 ]
 
--- rows are counted by registers, sixteen for each but the world's
-as_many_rows : (registers before now last threads : ℕ) → registers ≡ 16 * threads → registers ≡ 16 * (before - 1) → now ≡ last → before ≡ last → 1 ≤ threads → now ≡ threads + 1
+-- rows are counted by registers, 256 for each but the world's
+as_many_rows : (registers before now last threads : ℕ) → registers ≡ REGISTERS * threads → registers ≡ REGISTERS * (before - 1) → now ≡ last → before ≡ last → 1 ≤ threads → now ≡ threads + 1
 as_many_rows registers before now last threads a b c d e = omega arith
 
 -- the graph has a row for the world and one for each thread
@@ -100,15 +100,15 @@ pub record IsBase (at : Name → ℕ) (m : Moment) (v : ThreadState) (o : Op) (p
 pub same_pair : (a b c d : ℕ) → ◌≡◌ {A = Option (ℕ × ℕ)} (Some (a, b)) (Some (c, d)) → (a ≡ c) × (b ≡ d)
 same_pair a b c d e = (ap (λ (z : Option (ℕ × ℕ)). option_map_or (λ (q : ℕ × ℕ). q.0) z a) e, ap (λ (z : Option (ℕ × ℕ)). option_map_or (λ (q : ℕ × ℕ). q.1) z b) e)
 
--- the base register is one of sixteen
-base_small : (o : Op) (base index : ℕ) → IsWellFormed o → base_of o ≡ Some (base, index) → base < 16
+-- the base register is one of 256
+base_small : (o : Op) (base index : ℕ) → IsWellFormed o → base_of o ≡ Some (base, index) → base < REGISTERS
 base_small (op.New d shape) base index formed e = absurd (cc)
-base_small (op.Load d r i) base index formed e = let k = (same_pair r i base index e).0 in subst (λ z. z < 16) k formed.1
-base_small (op.Store r i source) base index formed e = let k = (same_pair r i base index e).0 in subst (λ z. z < 16) k formed.0
-base_small (op.Put r i value) base index formed e = let k = (same_pair r i base index e).0 in subst (λ z. z < 16) k formed
-base_small (op.Get r i) base index formed e = let k = (same_pair r i base index e).0 in subst (λ z. z < 16) k formed
-base_small (op.Swap d r i source) base index formed e = let k = (same_pair r i base index e).0 in subst (λ z. z < 16) k formed.1
-base_small (op.Add r i value) base index formed e = let k = (same_pair r i base index e).0 in subst (λ z. z < 16) k formed
+base_small (op.Load d r i) base index formed e = let k = (same_pair r i base index e).0 in subst (λ z. z < REGISTERS) k formed.1
+base_small (op.Store r i source) base index formed e = let k = (same_pair r i base index e).0 in subst (λ z. z < REGISTERS) k formed.0
+base_small (op.Put r i value) base index formed e = let k = (same_pair r i base index e).0 in subst (λ z. z < REGISTERS) k formed
+base_small (op.Get r i) base index formed e = let k = (same_pair r i base index e).0 in subst (λ z. z < REGISTERS) k formed
+base_small (op.Swap d r i source) base index formed e = let k = (same_pair r i base index e).0 in subst (λ z. z < REGISTERS) k formed.1
+base_small (op.Add r i value) base index formed e = let k = (same_pair r i base index e).0 in subst (λ z. z < REGISTERS) k formed
 base_small (op.Move d source) base index formed e = absurd (cc)
 base_small (op.Nil d) base index formed e = absurd (cc)
 base_small (op.Same left right) base index formed e = absurd (cc)
@@ -138,7 +138,7 @@ pub base_holds : (at : Name → ℕ) (m : Moment) (v : ThreadState) (o : Op) (pl
 base_holds at m v o place index base of e = ap (register_at m.state v.thread) (same_pair base index of.base index (sym e ∙ of.named)).0 ∙ of.holds
 
 -- a base register that is nil holds nothing
-pub base_nil : (t : Tables) (blocks : ℕ) (at : Name → ℕ) (m : Moment) (v : ThreadState) (base : ℕ) → Acts t blocks at m v → base < 16 → (held v base).0 ≡ 0 → register_at m.state v.thread base ≡ None
+pub base_nil : (t : Tables) (blocks : ℕ) (at : Name → ℕ) (m : Moment) (v : ThreadState) (base : ℕ) → Acts t blocks at m v → base < REGISTERS → (held v base).0 ≡ 0 → register_at m.state v.thread base ≡ None
 base_nil t blocks at m v base known small nothing =
     nil_with (register_at m.state v.thread base) (in_register m v.thread base known.follows) (sym (known.holds.places base small) ∙ nothing)
   where

@@ -1,6 +1,7 @@
 -- The single atomic steps of mutators, in their finest granularity: what each does to the tables, to what its mutator shows,
 -- and to the history. The steps of decrementers stand in a file of their own.
 use Rattle.std.specs.Prelude.{◌≡◌, ◌≢◌, ℕ, ◌+◌, Bool, true, false, nat_eq, Option, Some, None, List, [], ◌∷◌, ◌++◌, replicate, slice_set, if◌then◌else◌}
+use Rattle.lxr_layout.specs.declared.TheConstants.{REGISTERS}
 use Rattle.lxr_layout.specs.declared.LogEntry.{LogEntry}
 use Rattle.lxr_layout.specs.declared.Name.{Name}
 use Rattle.lxr_layout.specs.declared.Place.{Place}
@@ -164,7 +165,7 @@ at_once v (op.Nil dest) = Some (reply.Cleared, slice_set v.registers dest nil)
 at_once v (op.Same left right) = Some (reply.Same (nat_eq (held v left).0 (held v right).0), v.registers)
 at_once v op.Pause = None
 at_once v op.Collect = None
-at_once v op.End = Some (reply.Ended, replicate 16 nil)
+at_once v op.End = Some (reply.Ended, replicate REGISTERS nil)
 
 -- the span from which an object is taken, and the spans once it is taken
 abbrev pub span_from : Source → Spans → Span

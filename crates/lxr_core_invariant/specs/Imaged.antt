@@ -1,6 +1,7 @@
 -- The image in the epoch: objects stand in the heap, registers hold the places of what the model's registers hold, and what
 -- a mutator has learned of an object stays true.
 use Rattle.std.specs.Prelude.{◌≡◌, ℕ, ◌+◌, ◌<◌, ◌≤◌, ⊤, Some, length, slice_get, IsTrue}
+use Rattle.lxr_layout.specs.declared.TheConstants.{REGISTERS}
 use Rattle.lxr_layout.specs.declared.Name.{Name}
 use Rattle.lxr_layout.specs.declared.Shape.{Shape}
 use Rattle.lxr_layout.specs.Objects.{word_count}
@@ -15,10 +16,10 @@ use Rattle.lxr_core_invariant.specs.ThreadStates.{Intent, Stage, ThreadState, he
 use Rattle.lxr_core_invariant.specs.EpochStates.{Beginning, EpochState, limits_of, moment_of}
 use Rattle.lxr_core_invariant.specs.Events.{WorksOn}
 
--- sixteen registers hold the places of what those of the thread hold in the model
+-- 256 registers hold the places of what those of the thread hold in the model
 pub record HoldsRegisters (st : State) (at : Name → ℕ) (v : ThreadState) : Type 0 where
-  pub sixteen : length v.registers ≡ 16
-  pub places : (r : ℕ) → r < 16 → (held v r).0 ≡ place_word at (register_at st v.thread r)
+  pub as_many : length v.registers ≡ REGISTERS
+  pub places : (r : ℕ) → r < REGISTERS → (held v r).0 ≡ place_word at (register_at st v.thread r)
 
 -- a reference of a member's object stands at a place and index
 pub record IsReferenceAt (m : Moment) (at : Name → ℕ) (place index : ℕ) : Type 0 where

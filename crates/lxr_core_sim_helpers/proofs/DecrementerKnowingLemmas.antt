@@ -96,7 +96,7 @@ list_told b s r is regions =
     let count : ℕ = s.tables.cursors DECREMENT_COUNT in
     let fits = (ground_of b s is).decrements.fits in
     let decs : r.decs ≡ region_begin l decs_region = ap (λ x. x.decs) regions in
-    let after : r.remembered ≡ region_begin l decs_region + l.threads * (l.log + 16) = ap (λ x. x.remembered) regions ∙ omega arith in
+    let after : r.remembered ≡ region_begin l decs_region + l.threads * (l.log + l.registers) = ap (λ x. x.remembered) regions ∙ omega arith in
     let within : r.decs + count ≤ r.remembered = omega (arith, decs, after, fits) in
     let test = le-leb (r.decs + count) r.remembered within in
     ap (λ c. if c then count else 0) test

@@ -32,7 +32,7 @@ use Rattle.lxr_core_invariant.specs.EpochStates.{Beginning, EpochState, limits_o
 use Rattle.lxr_core_invariant.proofs.ActingLemmas.{acts, base_held, same_pair}
 use Rattle.lxr_core_sim_mutator.specs.Showing.{IsMutatorOf, stage_in, thread_state_of, written_by}
 use Rattle.lxr_core_sim_mutator.specs.Stepping.{ShowsAs, StepIsEvent}
-use Rattle.lxr_core_sim_mutator.proofs.KeepingLemmas.{GoesOn, goes_on, no_end_now, now_shown, to_done, to_phase, thread_state_done}
+use Rattle.lxr_core_sim_mutator.proofs.KeepingLemmas.{GoesOn, goes_on, no_end_now, now_shown, of_space, thread_state_done, to_done, to_phase}
 use Rattle.lxr_core_sim_mutator.proofs.OutcomeLemmas.{IsEventOf, IsEventTo, both, by_access, in_phase, is_le, none_more, of_event, on_heap, one_more, told_from, told_lt}
 use Rattle.lxr_core_sim_mutator.proofs.KnowingLemmas.{few_blocks, header_there, told_is_header}
 
@@ -86,7 +86,7 @@ module _ (b : Beginning) (s : EpochState) (words : List ℕ) (i : ℕ) (m : Muta
         may = record { place = base.0; index = index_of (op_now m); shape = shape; reads = is.reads; past = past };
         tables = refl;
         thread_states = ap (slice_set s.thread_states i) (sym (thread_state_done reader (op_now m) reply.Range is.goes.since (no_end_now reader is.goes more)));
-        mutator = to_done (limits_of b) reader reply.Range is.goes is.shows.mutator.regions more;
+        mutator = to_done (limits_of b) reader reply.Range is.goes (of_space is.shows.mutator) more;
         history = one_more _ _ m.replies.items reply.Range;
         places = refl;
       }
@@ -117,7 +117,7 @@ module _ (b : Beginning) (s : EpochState) (words : List ℕ) (i : ℕ) (m : Muta
       let same = same_pair works.register_of works.index r k (sym works.named ∙ named) in
       let st = record (begun m.regions base k (register m source)) { last = last } in
       by_reference (phase.Storing st) (nat_lt k shape.refs)
-      (to_phase (limits_of b) reader (phase.Storing st) is.goes is.shows.mutator.regions (is.shows.mutator.sound.busy refl) (tt, refl) (record {
+      (to_phase (limits_of b) reader (phase.Storing st) is.goes (of_space is.shows.mutator) (is.shows.mutator.sound.busy refl) (tt, refl) (record {
         dest = dest;
         base = r;
         index = k;
@@ -139,24 +139,24 @@ module _ (b : Beginning) (s : EpochState) (words : List ℕ) (i : ℕ) (m : Muta
   reaches (op.Load dest r k) e =
       let index = ap index_of e in
       by_reference (phase.Reference base) (nat_lt k shape.refs)
-      (to_phase (limits_of b) reader (phase.Reference base) is.goes is.shows.mutator.regions (is.shows.mutator.sound.busy refl) is.shows.mutator.sound.phase (dest, r, k, e))
+      (to_phase (limits_of b) reader (phase.Reference base) is.goes (of_space is.shows.mutator) (is.shows.mutator.sound.busy refl) is.shows.mutator.sound.phase (dest, r, k, e))
       refl (ap is_for_reference e) (ap (λ (x : ℕ). nat_lt x shape.refs) index)
   reaches (op.Store r k source) e = reaches_store last_step.Store 0 r k source e (ap is_for_reference e) (ap index_of e) (ap base_of e)
   reaches (op.Put r k value) e =
       let index = ap index_of e in
       by_value (phase.Putting base shape.refs) (nat_lt k shape.values)
-      (to_phase (limits_of b) reader (phase.Putting base shape.refs) is.goes is.shows.mutator.regions (is.shows.mutator.sound.busy refl) is.shows.mutator.sound.phase (r, k, value, e))
+      (to_phase (limits_of b) reader (phase.Putting base shape.refs) is.goes (of_space is.shows.mutator) (is.shows.mutator.sound.busy refl) is.shows.mutator.sound.phase (r, k, value, e))
       refl (ap is_for_reference e) (ap (λ (x : ℕ). nat_lt x shape.values) index)
   reaches (op.Get r k) e =
       let index = ap index_of e in
       by_value (phase.Datum base shape.refs) (nat_lt k shape.values)
-      (to_phase (limits_of b) reader (phase.Datum base shape.refs) is.goes is.shows.mutator.regions (is.shows.mutator.sound.busy refl) is.shows.mutator.sound.phase (r, k, e))
+      (to_phase (limits_of b) reader (phase.Datum base shape.refs) is.goes (of_space is.shows.mutator) (is.shows.mutator.sound.busy refl) is.shows.mutator.sound.phase (r, k, e))
       refl (ap is_for_reference e) (ap (λ (x : ℕ). nat_lt x shape.values) index)
   reaches (op.Swap dest r k source) e = reaches_store last_step.Swap dest r k source e (ap is_for_reference e) (ap index_of e) (ap base_of e)
   reaches (op.Add r k value) e =
       let index = ap index_of e in
       by_value (phase.Adding base shape.refs) (nat_lt k shape.values)
-      (to_phase (limits_of b) reader (phase.Adding base shape.refs) is.goes is.shows.mutator.regions (is.shows.mutator.sound.busy refl) is.shows.mutator.sound.phase (r, k, value, e))
+      (to_phase (limits_of b) reader (phase.Adding base shape.refs) is.goes (of_space is.shows.mutator) (is.shows.mutator.sound.busy refl) is.shows.mutator.sound.phase (r, k, value, e))
       refl (ap is_for_reference e) (ap (λ (x : ℕ). nat_lt x shape.values) index)
   reaches (op.New dest sh) e = absurd (no_base (sym is.shows.mutator.steady.named ∙ ap base_of e))
   reaches (op.Move dest source) e = absurd (no_base (sym is.shows.mutator.steady.named ∙ ap base_of e))

@@ -20,7 +20,7 @@ use Rattle.lxr_mutator.specs.declared.phases.MutatorPhase.TheVariants as phase
 use Rattle.lxr_mutator.specs.declared.phases.Stop.TheVariants as stop
 use Rattle.lxr_mutator.specs.Mutating.{Mutating, op_now}
 use Rattle.lxr_mutator.specs.Steps.{in_current, in_overflow, is_medium, is_run, run_in, shape_now}
-use Rattle.lxr_mutator.proofs.NowLemmas.{formed_now, shape_fits}
+use Rattle.lxr_mutator.proofs.NowLemmas.{shape_now_fits}
 use Rattle.lxr_mutator.proofs.RunLemmas.{word_of_told}
 use Rattle.lxr_core_invariant.specs.Events.{Current, Overflow, Source, making, source_for, with_span}
 use Rattle.lxr_core_invariant.specs.Events as epoch
@@ -28,7 +28,7 @@ use Rattle.lxr_core_invariant.specs.Laws.{CursorsAreFar}
 use Rattle.lxr_core_invariant.specs.EpochStates.{Beginning, EpochState, limits_of}
 use Rattle.lxr_core_sim_mutator.specs.Showing.{IsMutatorOf, IsNew, thread_state_of}
 use Rattle.lxr_core_sim_mutator.specs.Stepping.{ShowsAs, StepIsEvent}
-use Rattle.lxr_core_sim_mutator.proofs.KeepingLemmas.{GoesOn, goes_on, to_phase, with_spans}
+use Rattle.lxr_core_sim_mutator.proofs.KeepingLemmas.{GoesOn, IsOfSpace, goes_on, of_space, to_phase, with_spans}
 use Rattle.lxr_core_sim_mutator.proofs.OutcomeLemmas.{IsEventOf, IsEventTo, both, by_access, history_by, in_phase, is_le, is_lt, new_shown, none_more, of_event}
 use Rattle.lxr_core_sim_mutator.proofs.KnowingLemmas.{block_count, block_listed, few_blocks, run_count, run_listed}
 
@@ -49,7 +49,7 @@ draws_run_step far b s words i m shows =
       may = record { stage = refl; shape = shape_now n; does = new_shown n goes steady.0; line = steady.1 };
       tables = refl;
       thread_states = refl;
-      mutator = to_phase (limits_of b) n (phase.RunNumber next) goes shows.mutator.regions more shows.mutator.sound.phase steady;
+      mutator = to_phase (limits_of b) n (phase.RunNumber next) goes (of_space shows.mutator) more shows.mutator.sound.phase steady;
       history = none_more _ _ n.replies.items;
       places = refl;
     }))
@@ -73,7 +73,7 @@ run_told b s words i m number true shows few e =
       may = record { stage = refl; listed = listed };
       tables = refl;
       thread_states = refl;
-      mutator = to_phase (limits_of b) n (phase.Run number) goes shows.mutator.regions (shows.mutator.sound.busy refl)
+      mutator = to_phase (limits_of b) n (phase.Run number) goes (of_space shows.mutator) (shows.mutator.sound.busy refl)
           (shows.mutator.sound.phase, (let end = runs_end (limits_of b) n.regions (s.tables.cursors RUN_COUNT) shows.mutator.regions few in omega (arith, end, listed))) shows.mutator.steady;
       history = none_more _ _ n.replies.items;
       places = refl;
@@ -86,7 +86,7 @@ run_told b s words i m number false shows few e =
       may = record { number = number; stage = refl; none = ltb-false number (s.tables.cursors RUN_COUNT) e };
       tables = refl;
       thread_states = refl;
-      mutator = to_phase (limits_of b) n phase.DrawsBlock goes shows.mutator.regions (shows.mutator.sound.busy refl) shows.mutator.sound.phase.1 shows.mutator.steady.0;
+      mutator = to_phase (limits_of b) n phase.DrawsBlock goes (of_space shows.mutator) (shows.mutator.sound.busy refl) shows.mutator.sound.phase.1 shows.mutator.steady.0;
       history = none_more _ _ n.replies.items;
       places = refl;
     }
@@ -138,19 +138,19 @@ run_end r shape may = low r.block r.line r.lines may.block may.some may.within
     low block line lines there some within = (omega arith, omega arith)
 
 -- an object is made at the front of a span that is the current one, or the overflow one, from now on
-pub to_current : (l : Limits) (m : Mutating) (span : Span) → GoesOn m → m.regions ≡ regions_of l → length m.replies.items < length m.operations → IsNew m → span.end ≤ MOST_GRANULES
+pub to_current : (l : Limits) (m : Mutating) (span : Span) → GoesOn m → IsOfSpace l m → length m.replies.items < length m.operations → IsNew m → span.end ≤ MOST_GRANULES
     → span.next + 1 ≤ MOST_GRANULES → IsMutatorOf l (in_current m (shape_now m) span)
-to_current l m span goes regions more new end next =
+to_current l m span goes space more new end next =
     let spans = record m.spans { current = record span { next = span.next + granule_count (shape_now m) } } in
-    to_phase l (record m { spans = spans }) (phase.Wiping (record { 0 = span.next + 1 }) 1) (with_spans m spans goes (end, goes.spans.1)) regions more
+    to_phase l (record m { spans = spans }) (phase.Wiping (record { 0 = span.next + 1 }) 1) (with_spans m spans goes (end, goes.spans.1)) space more
     ((omega arith, next), (omega arith, omega arith)) new
 
 -- and so where the span is the overflow one
-pub to_overflow : (l : Limits) (m : Mutating) (span : Span) → GoesOn m → m.regions ≡ regions_of l → length m.replies.items < length m.operations → IsNew m → span.end ≤ MOST_GRANULES
+pub to_overflow : (l : Limits) (m : Mutating) (span : Span) → GoesOn m → IsOfSpace l m → length m.replies.items < length m.operations → IsNew m → span.end ≤ MOST_GRANULES
     → span.next + 1 ≤ MOST_GRANULES → IsMutatorOf l (in_overflow m (shape_now m) span)
-to_overflow l m span goes regions more new end next =
+to_overflow l m span goes space more new end next =
     let spans = record m.spans { overflow = record span { next = span.next + granule_count (shape_now m) } } in
-    to_phase l (record m { spans = spans }) (phase.Wiping (record { 0 = span.next + 1 }) 1) (with_spans m spans goes (goes.spans.0, end)) regions more
+    to_phase l (record m { spans = spans }) (phase.Wiping (record { 0 = span.next + 1 }) 1) (with_spans m spans goes (goes.spans.0, end)) space more
     ((omega arith, next), (omega arith, omega arith)) new
 
 -- a step that loads a run, and takes it, is an event
@@ -174,7 +174,7 @@ run_step b s words i m number shows =
       block = (let block = there.block in omega (arith, block, few));
       some = there.some;
       within = there.within;
-      fits = shape_fits (op_now n) (formed_now n shows.mutator.sound);
+      fits = shape_now_fits n shows.mutator.sound;
       line = steady.1;
     }) in
     let end = run_end (run_in word) (shape_now n) may in
@@ -193,7 +193,7 @@ run_step b s words i m number shows =
       };
       tables = refl;
       thread_states = refl;
-      mutator = to_current l n (run_span (run_in word)) goes shows.mutator.regions more steady.0 end.0 end.1;
+      mutator = to_current l n (run_span (run_in word)) goes (of_space shows.mutator) more steady.0 end.0 end.1;
       history = none_more _ _ n.replies.items;
       places = refl;
     }))
@@ -215,7 +215,7 @@ draws_block_step far b s words i m shows =
       may = (refl, (shape_now n, new_shown n goes shows.mutator.steady));
       tables = refl;
       thread_states = refl;
-      mutator = to_phase (limits_of b) n (phase.BlockNumber next) goes shows.mutator.regions more shows.mutator.sound.phase shows.mutator.steady;
+      mutator = to_phase (limits_of b) n (phase.BlockNumber next) goes (of_space shows.mutator) more shows.mutator.sound.phase shows.mutator.steady;
       history = none_more _ _ n.replies.items;
       places = refl;
     }))
@@ -239,7 +239,7 @@ block_told b s words i m number true shows few e =
       may = record { stage = refl; listed = listed };
       tables = refl;
       thread_states = refl;
-      mutator = to_phase (limits_of b) n (phase.Block number) goes shows.mutator.regions (shows.mutator.sound.busy refl)
+      mutator = to_phase (limits_of b) n (phase.Block number) goes (of_space shows.mutator) (shows.mutator.sound.busy refl)
           (shows.mutator.sound.phase, (let end = frees_end (limits_of b) n.regions (s.tables.cursors FREE_BLOCK_COUNT) shows.mutator.regions few in omega (arith, end, listed))) shows.mutator.steady;
       history = none_more _ _ n.replies.items;
       places = refl;
@@ -252,7 +252,7 @@ block_told b s words i m number false shows few e =
       may = record { number = number; stage = refl; none = ltb-false number (s.tables.cursors FREE_BLOCK_COUNT) e; shape = shape_now n; does = new_shown n goes shows.mutator.steady };
       tables = refl;
       thread_states = refl;
-      mutator = to_phase (limits_of b) n (phase.GivingUp stop.NoRun) goes shows.mutator.regions (shows.mutator.sound.busy refl) tt tt;
+      mutator = to_phase (limits_of b) n (phase.GivingUp stop.NoRun) goes (of_space shows.mutator) (shows.mutator.sound.busy refl) tt tt;
       history = none_more _ _ n.replies.items;
       places = refl;
     }
@@ -291,10 +291,10 @@ placed_shown m span true = refl
 placed_shown m span false = refl
 
 -- it is a mutator of the space then
-placed_kept : (l : Limits) (m : Mutating) (span : Span) (medium : Bool) → GoesOn m → m.regions ≡ regions_of l → length m.replies.items < length m.operations → IsNew m → span.end ≤ MOST_GRANULES
+placed_kept : (l : Limits) (m : Mutating) (span : Span) (medium : Bool) → GoesOn m → IsOfSpace l m → length m.replies.items < length m.operations → IsNew m → span.end ≤ MOST_GRANULES
     → span.next + 1 ≤ MOST_GRANULES → IsMutatorOf l (placed_as m span medium)
-placed_kept l m span true goes regions more new end next = to_overflow l m span goes regions more new end next
-placed_kept l m span false goes regions more new end next = to_current l m span goes regions more new end next
+placed_kept l m span true goes space more new end next = to_overflow l m span goes space more new end next
+placed_kept l m span false goes space more new end next = to_current l m span goes space more new end next
 
 -- and has replied to no more
 placed_counts : (m : Mutating) (span : Span) (medium : Bool) → (placed_as m span medium).replies ≡ m.replies
@@ -324,7 +324,7 @@ block_step b s words i m number shows =
       tables = refl;
       thread_states = ap (λ (f : Source). slice_set s.thread_states i (making (thread_state_of n) f (with_span f n.spans (block_span block)) (shape_now n))) (source_is (shape_now n))
           ∙ ap (slice_set s.thread_states i) (sym (placed_shown n (block_span block) medium));
-      mutator = placed_kept l n (block_span block) medium goes shows.mutator.regions more shows.mutator.steady (omega (arith, there, few)) (omega (arith, there, few));
+      mutator = placed_kept l n (block_span block) medium goes (of_space shows.mutator) more shows.mutator.steady (omega (arith, there, few)) (omega (arith, there, few));
       history = none_more _ _ n.replies.items ∙ ap (λ (r : Roomy Reply). history_by b s n (length r.items)) (sym (placed_counts n (block_span block) medium));
       places = refl;
     }))

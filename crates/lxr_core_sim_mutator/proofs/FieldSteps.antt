@@ -18,12 +18,13 @@ use Rattle.lxr_mutator.specs.declared.phases.MutatorPhase.TheVariants as phase
 use Rattle.lxr_mutator.specs.Mutating.{Mutating, op_now}
 use Rattle.lxr_mutator.specs.Operating.{dest_of, found_reply, index_of, value_of}
 use Rattle.lxr_mutator.specs.Steps.{name_told}
+use Rattle.lxr_mutator.proofs.NowLemmas.{dest_now}
 use Rattle.lxr_core_invariant.specs.Events.{takes_reference, value_word}
 use Rattle.lxr_core_invariant.specs.Events as epoch
 use Rattle.lxr_core_invariant.specs.EpochStates.{Beginning, EpochState, limits_of, moment_of}
 use Rattle.lxr_core_sim_mutator.specs.Showing.{thread_state_of}
 use Rattle.lxr_core_sim_mutator.specs.Stepping.{ShowsAs, StepIsEvent}
-use Rattle.lxr_core_sim_mutator.proofs.KeepingLemmas.{goes_on, no_end_now, now_shown, to_done, thread_state_done}
+use Rattle.lxr_core_sim_mutator.proofs.KeepingLemmas.{goes_on, no_end_now, now_shown, of_space, thread_state_done, to_done}
 use Rattle.lxr_core_sim_mutator.proofs.OutcomeLemmas.{IsEventOf, by_access, in_phase, is_le, on_heap, one_more}
 use Rattle.lxr_core_sim_mutator.proofs.TakingLemmas.{same_found, taken_kept, taken_shown}
 use Rattle.lxr_core_sim_mutator.proofs.KnowingLemmas.{few_blocks, header_there, reference_there, told_is_header, value_there}
@@ -68,7 +69,7 @@ reference_step b s words i m base shows =
       may = record { stage = refl; does = now_shown n goes; loads = load_parts (op_now n) shows.mutator.steady };
       tables = refl;
       thread_states = ap (slice_set s.thread_states i) (sym (taken_shown n p (nat_eq p.0 0) shows.names goes.since (no_end_now n goes more)));
-      mutator = taken_kept l n p (nat_eq p.0 0) shows.names goes shows.mutator.regions more (ap takes_reference shows.mutator.steady.3) (omega (arith, low)) refl;
+      mutator = taken_kept l n p (nat_eq p.0 0) shows.names (dest_now n shows.mutator.sound) goes (of_space shows.mutator) more (ap takes_reference shows.mutator.steady.3) (omega (arith, low)) refl;
       history = refl;
       places = refl;
     }))
@@ -99,7 +100,7 @@ referent_step b s words i m place shows =
       thread_states = ap (slice_set s.thread_states i) (sym (thread_state_done n (op_now n) (found_reply (op_now n) (Some (name_told (header_of (s.tables.heap at))))) goes.since (no_end_now n goes more)
           ∙ ap (λ (k : Name). epoch.done_with (thread_state_of n) (op_now n) (found_reply (op_now n) (Some k))) name
           ∙ ap (epoch.done_with (thread_state_of n) (op_now n)) (same_found (op_now n) (Some telling.name))));
-      mutator = to_done l n (found_reply (op_now n) (Some (name_told (header_of (s.tables.heap at))))) goes shows.mutator.regions more;
+      mutator = to_done l n (found_reply (op_now n) (Some (name_told (header_of (s.tables.heap at))))) goes (of_space shows.mutator) more;
       history = refl;
       places = refl;
     }))
@@ -127,7 +128,7 @@ datum_step b s words i m base refs shows =
       may = record { stage = refl; does = now_shown n goes; gets = get_parts (op_now n) shows.mutator.steady };
       tables = refl;
       thread_states = ap (slice_set s.thread_states i) (sym (thread_state_done n (op_now n) answer goes.since (no_end_now n goes more)));
-      mutator = to_done l n answer goes shows.mutator.regions more;
+      mutator = to_done l n answer goes (of_space shows.mutator) more;
       history = one_more _ _ n.replies.items answer;
       places = refl;
     }))
@@ -153,7 +154,7 @@ putting_step b s words i m base refs shows =
       may = record { stage = refl; does = now_shown n goes; puts = put_parts (op_now n) shows.mutator.steady };
       tables = refl;
       thread_states = ap (slice_set s.thread_states i) (sym (thread_state_done n (op_now n) reply.Put goes.since (no_end_now n goes more)));
-      mutator = to_done l n reply.Put goes shows.mutator.regions more;
+      mutator = to_done l n reply.Put goes (of_space shows.mutator) more;
       history = one_more _ _ n.replies.items reply.Put;
       places = refl;
     })
@@ -180,7 +181,7 @@ adding_step b s words i m base refs shows =
       may = record { stage = refl; does = now_shown n goes; adds = add_parts (op_now n) shows.mutator.steady };
       tables = refl;
       thread_states = ap (slice_set s.thread_states i) (sym (thread_state_done n (op_now n) answer goes.since (no_end_now n goes more)));
-      mutator = to_done l n answer goes shows.mutator.regions more;
+      mutator = to_done l n answer goes (of_space shows.mutator) more;
       history = one_more _ _ n.replies.items answer;
       places = refl;
     }))

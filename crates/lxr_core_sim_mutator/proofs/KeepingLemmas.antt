@@ -17,10 +17,10 @@ use Rattle.lxr_mutator.specs.declared.phases.MutEnd.{MutEnd}
 use Rattle.lxr_mutator.specs.declared.phases.MutEnd.TheVariants as ends
 use Rattle.lxr_mutator.specs.declared.phases.MutatorPhase.{MutatorPhase}
 use Rattle.lxr_mutator.specs.declared.phases.MutatorPhase.TheVariants as phase
-use Rattle.lxr_mutator.specs.Mutating.{Mutating, nil, op_now, register, rests_in}
+use Rattle.lxr_mutator.specs.Mutating.{Mutating, op_now, register, rests_in}
 use Rattle.lxr_mutator.specs.Mutators.{AreInHeap, AreRegisters, IsHeld, IsMutator, IsOperation, IsSetup, MayBeIn, setup_of}
 use Rattle.lxr_mutator.specs.Steps.{done_with, ended, finished, with_register}
-use Rattle.lxr_mutator.proofs.RegisterLemmas.{registers_cleared, registers_set}
+use Rattle.lxr_mutator.proofs.RegisterLemmas.{held_anywhere, registers_cleared, registers_set}
 use Rattle.lxr_core_invariant.specs.ThreadStates.{ThreadState, all_of, is_end, Rests, Through}
 use Rattle.lxr_core_invariant.specs.ThreadStates as why
 use Rattle.lxr_core_invariant.specs.Events as epoch
@@ -29,7 +29,7 @@ use Rattle.lxr_core_sim_mutator.specs.Showing.{IsMutatorOf, IsNew, IsSteadyIn, s
 -- what holds of a mutator that goes on, whatever its phase
 pub record GoesOn (m : Mutating) : Type 0 where
   pub setup : IsSetup (setup_of m)
-  pub registers : AreRegisters m.registers
+  pub registers : AreRegisters m.width m.registers
   pub spans : AreInHeap m.spans
   pub replies : length m.replies.items ≤ length m.operations
   pub since : m.since < m.every
@@ -45,10 +45,10 @@ goes_on m is goes = record {
 }
 
 -- and with another register
-pub with_place : (m : Mutating) (r : ℕ) (p : Place) → GoesOn m → IsHeld p → GoesOn (with_register m r p)
-with_place m r p is held = record {
+pub with_place : (m : Mutating) (r : ℕ) (p : Place) → r < m.width → GoesOn m → IsHeld p → GoesOn (with_register m r p)
+with_place m r p named is held = record {
   setup = is.setup;
-  registers = registers_set m.registers r p is.registers held;
+  registers = registers_set m.width m.registers r p named is.registers held;
   spans = is.spans;
   replies = is.replies;
   since = is.since;
@@ -74,10 +74,17 @@ with_log m log is = record {
   since = is.since;
 }
 
+-- it runs in a space of these limits, and may be asked to name as many registers as they say
+abbrev pub IsOfSpace : Limits → Mutating → Type 0
+IsOfSpace l m = (m.regions ≡ regions_of l) × (m.width ≡ l.registers)
+
+pub of_space : {l : Limits} {m : Mutating} → IsMutatorOf l m → IsOfSpace l m
+of_space is = (is.regions, is.width)
+
 -- it is in another phase of its operation
-pub to_phase : (l : Limits) (m : Mutating) (p : MutatorPhase) → GoesOn m → m.regions ≡ regions_of l → length m.replies.items < length m.operations → MayBeIn m p
+pub to_phase : (l : Limits) (m : Mutating) (p : MutatorPhase) → GoesOn m → IsOfSpace l m → length m.replies.items < length m.operations → MayBeIn m p
     → IsSteadyIn (record m { phase = p }) p → IsMutatorOf l (record m { phase = p })
-to_phase l m p is regions more may steady = record {
+to_phase l m p is space more may steady = record {
   sound = record {
     setup = is.setup;
     registers = is.registers;
@@ -89,14 +96,15 @@ to_phase l m p is regions more may steady = record {
     since = λ _. is.since;
     phase = may;
   };
-  regions = regions;
+  regions = space.0;
+  width = space.1;
   steady = steady;
 }
 
 -- it is through with the epoch for another cause than want of room, or in an operation
-pub to_finished : (l : Limits) (m : Mutating) (how : MutEnd) → GoesOn m → m.regions ≡ regions_of l → (how ≡ ends.NoRun → (length m.replies.items < length m.operations) × IsNew m)
+pub to_finished : (l : Limits) (m : Mutating) (how : MutEnd) → GoesOn m → IsOfSpace l m → (how ≡ ends.NoRun → (length m.replies.items < length m.operations) × IsNew m)
     → IsMutatorOf l (finished m how)
-to_finished l m how is regions waits = record {
+to_finished l m how is space waits = record {
   sound = record {
     setup = is.setup;
     registers = is.registers;
@@ -108,7 +116,8 @@ to_finished l m how is regions waits = record {
     since = λ ne. absurd (ne refl);
     phase = tt;
   };
-  regions = regions;
+  regions = space.0;
+  width = space.1;
   steady = λ e. (waits (cc)).1;
 }
 
@@ -117,13 +126,13 @@ longer : {A : Type 0} (xs : List A) (x : A) → length (xs ++ x ∷ []) ≡ leng
 longer xs x = length-append xs (x ∷ [])
 
 -- its end is done
-pub to_end : (l : Limits) (m : Mutating) → GoesOn m → m.regions ≡ regions_of l → IsMutatorOf l (ended m)
-to_end l m is regions =
+pub to_end : (l : Limits) (m : Mutating) → GoesOn m → IsOfSpace l m → IsMutatorOf l (ended m)
+to_end l m is space =
     let len = longer m.replies.items reply.Ended in
     record {
       sound = record {
         setup = is.setup;
-        registers = registers_cleared;
+        registers = registers_cleared m.width;
         spans = is.spans;
         few_replies = omega (arith, is.replies, len);
         replies = inl (refl, refl);
@@ -132,7 +141,8 @@ to_end l m is regions =
         since = λ ne. absurd (ne refl);
         phase = tt;
       };
-      regions = regions;
+      regions = space.0;
+      width = space.1;
       steady = λ e. absurd (cc);
     }
 
@@ -176,9 +186,9 @@ done_steady m r true e = λ waits. absurd (done_waits r true (cc))
 done_steady m r false e = (λ ended. done_goes r false (cc), λ waits. absurd (done_waits r false (cc)))
 
 -- a mutator that has done its operation is one of the space
-done_kept : (l : Limits) (m : Mutating) (r : Reply) (last : Bool) → nat_le m.every (m.since + 1) ≡ last → GoesOn m → m.regions ≡ regions_of l
+done_kept : (l : Limits) (m : Mutating) (r : Reply) (last : Bool) → nat_le m.every (m.since + 1) ≡ last → GoesOn m → IsOfSpace l m
     → length m.replies.items < length m.operations → IsMutatorOf l (done_as m r last)
-done_kept l m r last e is regions more =
+done_kept l m r last e is space more =
     let len = longer m.replies.items r in
     record {
       sound = record {
@@ -192,13 +202,14 @@ done_kept l m r last e is regions more =
         since = done_since m.every m.since last e;
         phase = done_may (done_as m r last) last;
       };
-      regions = regions;
+      regions = space.0;
+      width = space.1;
       steady = done_steady (done_as m r last) r last refl;
     }
 
 -- its operation is done
-pub to_done : (l : Limits) (m : Mutating) (r : Reply) → GoesOn m → m.regions ≡ regions_of l → length m.replies.items < length m.operations → IsMutatorOf l (done_with m r)
-to_done l m r is regions more = done_kept l m r (nat_le m.every (m.since + 1)) refl is regions more
+pub to_done : (l : Limits) (m : Mutating) (r : Reply) → GoesOn m → IsOfSpace l m → length m.replies.items < length m.operations → IsMutatorOf l (done_with m r)
+to_done l m r is space more = done_kept l m r (nat_le m.every (m.since + 1)) refl is space more
 
 -- ---- what it shows
 
@@ -250,8 +261,8 @@ pub more_to_do : (m : Mutating) → op_now m ≢ op.End → length m.replies.ite
 more_to_do m ne = ends_behind m.operations (length m.replies.items) ne
 
 -- no operation of a script is an end
-endless_at : (os : List Op) (n : ℕ) → All IsOperation os → n < length os → is_end (slice_index_or os n op.End) ≡ false
-endless_at os n all within = no_end (slice_index_or os n op.End) (All-get_or IsOperation os n op.End within all).1
+endless_at : (width : ℕ) (os : List Op) (n : ℕ) → All (IsOperation width) os → n < length os → is_end (slice_index_or os n op.End) ≡ false
+endless_at width os n all within = no_end (slice_index_or os n op.End) (All-get_or (IsOperation width) os n op.End within all).1
   where
     no_end : (o : Op) → o ≢ op.End → is_end o ≡ false
     no_end (op.New dest shape) ne = refl
@@ -270,20 +281,8 @@ endless_at os n all within = no_end (slice_index_or os n op.End) (All-get_or IsO
 
 -- an operation of the script is no end
 pub no_end_now : (m : Mutating) → GoesOn m → length m.replies.items < length m.operations → is_end (op_now m) ≡ false
-no_end_now m is more = endless_at m.operations (length m.replies.items) is.setup.operations more
-
--- what stands at an index, if anything, is nil or a place
-held_at : (ps : List Place) (r : ℕ) → All IsHeld ps → IsHeld (slice_index_or ps r nil)
-held_at ps r all = elim (nat_lt r (length ps)) as (λ b. nat_lt r (length ps) ≡ b → IsHeld (slice_index_or ps r nil)) [
-  | true ↦ λ e. All-get_or IsHeld ps r nil (grind (arith, e)) all
-  | false ↦ λ e. subst IsHeld (sym (past ps r (grind (arith, e)))) (omega arith)
-] refl
-  where
-    past : (ps : List Place) (r : ℕ) → length ps ≤ r → slice_index_or ps r nil ≡ nil
-    past [] r h = refl
-    past (p ∷ ps) zero h = absurd (omega arith)
-    past (p ∷ ps) (suc r) h = past ps r (omega arith)
+no_end_now m is more = endless_at m.width m.operations (length m.replies.items) is.setup.operations more
 
 -- what a register holds is nil or a place
 pub register_held : (m : Mutating) (r : ℕ) → GoesOn m → IsHeld (register m r)
-register_held m r is = held_at m.registers r is.registers.held
+register_held m r is = held_anywhere m.registers r is.registers.held

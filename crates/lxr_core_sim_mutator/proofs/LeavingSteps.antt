@@ -20,7 +20,7 @@ use Rattle.lxr_core_invariant.specs.ThreadStates.{Reason, Through}
 use Rattle.lxr_mutator.specs.declared.phases.MutEnd.TheVariants as ends
 use Rattle.lxr_core_sim_mutator.specs.Showing.{IsNew, reason_by, reason_of, thread_state_of}
 use Rattle.lxr_core_sim_mutator.specs.Stepping.{ShowsAs, StepIsEvent}
-use Rattle.lxr_core_sim_mutator.proofs.KeepingLemmas.{goes_on, no_end_now, now_shown, to_done, to_finished, thread_state_done}
+use Rattle.lxr_core_sim_mutator.proofs.KeepingLemmas.{goes_on, no_end_now, now_shown, of_space, thread_state_done, to_done, to_finished}
 use Rattle.lxr_core_sim_mutator.proofs.OutcomeLemmas.{by_access, in_phase, none_more, on_pause_word, one_more}
 
 -- the reply of an operation that asks for a pause
@@ -43,7 +43,7 @@ asking_step b s words i m shows =
       may = record { stage = refl; does = now_shown n goes; asks = asks (op_now n) shows.mutator.steady };
       tables = refl;
       thread_states = ap (slice_set s.thread_states i) (sym (thread_state_done n (op_now n) answer goes.since (no_end_now n goes more)));
-      mutator = to_done l n answer goes shows.mutator.regions more;
+      mutator = to_done l n answer goes (of_space shows.mutator) more;
       history = one_more _ _ n.replies.items answer;
       places = refl;
     })
@@ -77,7 +77,7 @@ leaving_step b s words i m how shows =
       may = refl;
       tables = refl;
       thread_states = ap (λ (r : Reason). slice_set s.thread_states i (record (thread_state_of n) { stage = Through r })) (sym (same_reason how));
-      mutator = to_finished l n (end_by how) goes shows.mutator.regions (λ e. (more, gives_up_new b s words i m how shows e));
+      mutator = to_finished l n (end_by how) goes (of_space shows.mutator) (λ e. (more, gives_up_new b s words i m how shows e));
       history = none_more _ _ n.replies.items;
       places = refl;
     })

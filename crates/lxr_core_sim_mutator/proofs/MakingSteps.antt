@@ -17,13 +17,14 @@ use Rattle.lxr_mutator.specs.declared.phases.MutatorPhase.TheVariants as phase
 use Rattle.lxr_mutator.specs.Mutating.{Mutating, op_now, next_name as next_made}
 use Rattle.lxr_mutator.specs.Operating.{dest_of}
 use Rattle.lxr_mutator.specs.Steps.{shape_now, with_register}
+use Rattle.lxr_mutator.proofs.NowLemmas.{dest_now}
 use Rattle.lxr_core_invariant.specs.ThreadStates.{Makes}
 use Rattle.lxr_core_invariant.specs.Events as epoch
 use Rattle.lxr_core_invariant.specs.Happening.{intends}
 use Rattle.lxr_core_invariant.specs.EpochStates.{Beginning, EpochState, limits_of, moment_of}
 use Rattle.lxr_core_sim_mutator.specs.Showing.{IsMutatorOf, IsNew, thread_state_of}
 use Rattle.lxr_core_sim_mutator.specs.Stepping.{ShowsAs, StepIsEvent}
-use Rattle.lxr_core_sim_mutator.proofs.KeepingLemmas.{GoesOn, goes_on, no_end_now, now_shown, to_done, to_phase, thread_state_done, with_place}
+use Rattle.lxr_core_sim_mutator.proofs.KeepingLemmas.{GoesOn, IsOfSpace, goes_on, no_end_now, now_shown, of_space, thread_state_done, to_done, to_phase, with_place}
 use Rattle.lxr_core_sim_mutator.proofs.OutcomeLemmas.{by_access, in_phase, new_parts, none_more, on_heap, one_more, told_from, told_lt}
 use Rattle.lxr_core_sim_mutator.proofs.KnowingLemmas.{making_there}
 
@@ -45,11 +46,11 @@ wiped_shown m place next false some below e =
     ap (λ (k : ℕ). intends (thread_state_of m) (Makes place.0 (shape_now m) k)) same
 
 -- it is a mutator of the space then
-wiped_kept : (l : Limits) (m : Mutating) (place : Place) (next : ℕ) (more : Bool) → GoesOn m → m.regions ≡ regions_of l → length m.replies.items < length m.operations → IsNew m → IsPlace place
+wiped_kept : (l : Limits) (m : Mutating) (place : Place) (next : ℕ) (more : Bool) → GoesOn m → IsOfSpace l m → length m.replies.items < length m.operations → IsNew m → IsPlace place
     → 1 ≤ next → nat_lt (next + 1) (word_count (shape_now m)) ≡ more → IsMutatorOf l (wiped_to m place next more)
-wiped_kept l m place next true goes regions left new is some e =
-    to_phase l m (phase.Wiping place (next + 1)) goes regions left (is, (omega arith, told_lt (next + 1) (word_count (shape_now m)) e)) new
-wiped_kept l m place next false goes regions left new is some e = to_phase l m (phase.Heading place) goes regions left is new
+wiped_kept l m place next true goes space left new is some e =
+    to_phase l m (phase.Wiping place (next + 1)) goes space left (is, (omega arith, told_lt (next + 1) (word_count (shape_now m)) e)) new
+wiped_kept l m place next false goes space left new is some e = to_phase l m (phase.Heading place) goes space left is new
 
 -- a step that wipes a word is an event
 pub wiping_step : (b : Beginning) (s : EpochState) (words : List ℕ) (i : ℕ) (m : Mutating) (place : Place) (next : ℕ) → ShowsAs b s words i (in_phase m (phase.Wiping place next))
@@ -75,7 +76,7 @@ wiping_step b s words i m place next shows =
       may = record { stage = refl; more = before next (word_count (shape_now n)) some below };
       tables = ap (λ (k : ℕ). with_heap s.tables k 0) same;
       thread_states = ap (slice_set s.thread_states i) (wiped_shown n place next more some below refl);
-      mutator = wiped_kept l n place next more goes shows.mutator.regions left shows.mutator.steady may.0 some refl;
+      mutator = wiped_kept l n place next more goes (of_space shows.mutator) left shows.mutator.steady may.0 some refl;
       history = none_more _ _ n.replies.items;
       places = refl;
     })
@@ -114,7 +115,7 @@ heading_step b s words i m place shows named =
       tables = ap (λ (k : Name). with_heap s.tables at (header_word k shape)) named;
       thread_states = ap (λ (k : Name). slice_set s.thread_states i (epoch.done_with (thread_state_of (with_register n dest place)) (op_now n) (reply.New k))) named
           ∙ ap (slice_set s.thread_states i) (sym (thread_state_done (with_register n dest place) (op_now n) (reply.New (next_made n)) goes.since (no_end_now n goes left)));
-      mutator = to_done l (with_register n dest place) (reply.New (next_made n)) (with_place n dest place goes may.1) shows.mutator.regions left;
+      mutator = to_done l (with_register n dest place) (reply.New (next_made n)) (with_place n dest place (dest_now n shows.mutator.sound) goes may.1) (of_space shows.mutator) left;
       history = one_more _ _ n.replies.items (reply.New (next_made n));
       places = refl;
     })

@@ -1,7 +1,7 @@
 -- The step that looks at the pause word between two operations, and begins one.
 use Rattle.std.proofs.Common.{◌≡◌, ◌≢◌, ℕ, ◌+◌, ◌-◌, ◌/◌, ◌<◌, ◌≤◌, Bool, true, false, arith, refl, sym, subst, ap, ◌∙◌, inl, inr, ◌⊎◌, List, length, replicate}
 use Rattle.std.specs.Prelude.{Some, None, ◌&&◌, nat_eq, nat_lt, slice_set, if◌then◌else◌}
-use Rattle.lxr_layout.specs.declared.TheConstants.{MOST_GRANULES, PAUSE_WORD}
+use Rattle.lxr_layout.specs.declared.TheConstants.{MOST_GRANULES, PAUSE_WORD, REGISTERS}
 use Rattle.lxr_layout.specs.declared.Place.{Place}
 use Rattle.lxr_layout.specs.declared.Shape.{Shape}
 use Rattle.lxr_layout.specs.Objects.{line_count, word_count}
@@ -10,6 +10,7 @@ use Rattle.lxr_graph.specs.declared.Op.{Op}
 use Rattle.lxr_graph.specs.declared.Op.TheVariants as op
 use Rattle.lxr_graph.specs.declared.Reply.{Reply}
 use Rattle.lxr_graph.specs.declared.Reply.TheVariants as reply
+use Rattle.lxr_graph.specs.Step.{IsFormedFor}
 use Rattle.lxr_actor.specs.declared.Kindred.TheVariants as kind
 use Rattle.lxr_core_access.specs.declared.TableEntry.TheVariants.{Cursor}
 use Rattle.lxr_core_access.specs.declared.Access.TheVariants.{Look}
@@ -19,6 +20,7 @@ use Rattle.lxr_mutator.specs.Mutating.{Mutating, nil, op_now, register}
 use Rattle.lxr_mutator.specs.Mutators.{IsHeld}
 use Rattle.lxr_mutator.specs.Operating.{shape_made}
 use Rattle.lxr_mutator.specs.Steps.{based, done_with, draws_for, ended, finished, has_room, in_current, in_overflow, is_medium, placed, shape_now, started}
+use Rattle.lxr_mutator.proofs.NowLemmas.{formed_now}
 use Rattle.lxr_invariant.proofs.BlockLemmas.{other_number}
 use Rattle.lxr_invariant.proofs.EntryLemmas.{equal_numbers}
 use Rattle.lxr_core_invariant.specs.ThreadStates.{ThreadState, Through, is_end}
@@ -29,7 +31,7 @@ use Rattle.lxr_core_invariant.specs.Happening.{MayBegin}
 use Rattle.lxr_core_invariant.specs.EpochStates.{Beginning, EpochState, limits_of}
 use Rattle.lxr_core_sim_mutator.specs.Showing.{thread_state_of}
 use Rattle.lxr_core_sim_mutator.specs.Stepping.{ShowsAs, StepIsEvent}
-use Rattle.lxr_core_sim_mutator.proofs.KeepingLemmas.{GoesOn, goes_on, more_to_do, no_end_now, now_shown, register_held, to_done, to_end, to_finished, to_phase, thread_state_done, with_place}
+use Rattle.lxr_core_sim_mutator.proofs.KeepingLemmas.{GoesOn, goes_on, more_to_do, no_end_now, now_shown, of_space, register_held, thread_state_done, to_done, to_end, to_finished, to_phase, with_place}
 use Rattle.lxr_core_sim_mutator.proofs.OutcomeLemmas.{IsEventOf, IsEventTo, by_access, in_phase, new_shown, none_more, of_event, on_pause_word, one_more, told_above, told_from, told_le, told_lt}
 use Rattle.lxr_core_sim_mutator.proofs.DrawingSteps.{to_current, to_overflow}
 
@@ -68,13 +70,13 @@ module _ (b : Beginning) (s : EpochState) (words : List ℕ) (i : ℕ) (m : Muta
     may = record { begin = begin; does = now_shown rested is.goes; replies = replies };
     tables = refl;
     thread_states = ap (slice_set s.thread_states i) (sym (thread_state_done (record rested { registers = registers }) (op_now m) r is.goes.since (no_end_now rested is.goes more)));
-    mutator = to_done (limits_of b) (record rested { registers = registers }) r goes is.shows.mutator.regions more;
+    mutator = to_done (limits_of b) (record rested { registers = registers }) r goes (of_space is.shows.mutator) more;
     history = one_more _ _ m.replies.items r;
     places = refl;
   }
 
   -- the end
-  thread_state_ended : is_end (op_now m) ≡ true → epoch.done_with (record (thread_state_of rested) { registers = replicate 16 nil }) (op_now m) reply.Ended ≡ thread_state_of (ended rested)
+  thread_state_ended : is_end (op_now m) ≡ true → epoch.done_with (record (thread_state_of rested) { registers = replicate REGISTERS nil }) (op_now m) reply.Ended ≡ thread_state_of (ended rested)
   thread_state_ended e =
       let since = ap (λ c. if c then m.since else (m.since + 1)) e in
       let stage = ap (λ c. if c then (Through why.Ended) else (if nat_eq (m.since + 1) m.every then (Through why.Turns) else why.Rests)) e in
@@ -83,11 +85,11 @@ module _ (b : Beginning) (s : EpochState) (words : List ℕ) (i : ℕ) (m : Muta
   -- a step at which the end is done is an event
   end_done : op_now m ≡ op.End → ToBe (ended rested)
   end_done e = record {
-    event = epoch.DoesAtOnce (op_now m) reply.Ended (replicate 16 nil);
+    event = epoch.DoesAtOnce (op_now m) reply.Ended (replicate REGISTERS nil);
     may = record { begin = begin; does = now_shown rested is.goes; replies = ap (at_once (thread_state_of rested)) e };
     tables = refl;
     thread_states = ap (slice_set s.thread_states i) (thread_state_ended (ap is_end e));
-    mutator = to_end (limits_of b) rested is.goes is.shows.mutator.regions;
+    mutator = to_end (limits_of b) rested is.goes (of_space is.shows.mutator);
     history = one_more _ _ m.replies.items reply.Ended;
     places = refl;
   }
@@ -107,7 +109,7 @@ module _ (b : Beginning) (s : EpochState) (words : List ℕ) (i : ℕ) (m : Muta
         may = begin;
         tables = refl;
         thread_states = refl;
-        mutator = to_phase (limits_of b) rested (phase.Base (register m r)) is.goes is.shows.mutator.regions more (omega (arith, some), held)
+        mutator = to_phase (limits_of b) rested (phase.Base (register m r)) is.goes (of_space is.shows.mutator) more (omega (arith, some), held)
             (record { register_of = r; index = k; named = named; held = refl; some = some });
         history = none_more _ _ m.replies.items;
         places = refl;
@@ -126,7 +128,7 @@ module _ (b : Beginning) (s : EpochState) (words : List ℕ) (i : ℕ) (m : Muta
       may = (begin, (shape_now m, new_shown rested is.goes (dest, new.0, new.1)));
       tables = refl;
       thread_states = refl;
-      mutator = to_phase (limits_of b) rested phase.DrawsBlock is.goes is.shows.mutator.regions more full (dest, new.0, new.1);
+      mutator = to_phase (limits_of b) rested phase.DrawsBlock is.goes (of_space is.shows.mutator) more full (dest, new.0, new.1);
       history = none_more _ _ m.replies.items;
       places = refl;
     }
@@ -138,7 +140,7 @@ module _ (b : Beginning) (s : EpochState) (words : List ℕ) (i : ℕ) (m : Muta
           may = begin;
           tables = refl;
           thread_states = refl;
-          mutator = to_phase (limits_of b) rested phase.DrawsRun is.goes is.shows.mutator.regions more (small, full) ((dest, new.0, new.1), one (word_count (shape_now m)) some small);
+          mutator = to_phase (limits_of b) rested phase.DrawsRun is.goes (of_space is.shows.mutator) more (small, full) ((dest, new.0, new.1), one (word_count (shape_now m)) some small);
           history = none_more _ _ m.replies.items;
           places = refl;
         }
@@ -155,7 +157,7 @@ module _ (b : Beginning) (s : EpochState) (words : List ℕ) (i : ℕ) (m : Muta
           may = record { begin = begin; fits = record { does = new_shown rested is.goes (dest, new.0, new.1); room = room; medium = λ _. told_lt 1 (line_count (shape_now m)) e } };
           tables = refl;
           thread_states = refl;
-          mutator = to_overflow (limits_of b) rested m.spans.overflow is.goes is.shows.mutator.regions more (dest, new.0, new.1) is.goes.spans.1
+          mutator = to_overflow (limits_of b) rested m.spans.overflow is.goes (of_space is.shows.mutator) more (dest, new.0, new.1) is.goes.spans.1
               (front_low m.spans.overflow.next m.spans.overflow.end (word_count (shape_now m)) (some_words (shape_now m)) room is.goes.spans.1);
           history = none_more _ _ m.replies.items;
           places = refl;
@@ -174,7 +176,7 @@ module _ (b : Beginning) (s : EpochState) (words : List ℕ) (i : ℕ) (m : Muta
           may = record { begin = begin; fits = record { does = new_shown rested is.goes (dest, new.0, new.1); room = room; medium = λ q. absurd (cc) } };
           tables = refl;
           thread_states = refl;
-          mutator = to_current (limits_of b) rested m.spans.current is.goes is.shows.mutator.regions more (dest, new.0, new.1) is.goes.spans.0
+          mutator = to_current (limits_of b) rested m.spans.current is.goes (of_space is.shows.mutator) more (dest, new.0, new.1) is.goes.spans.0
               (front_low m.spans.current.next m.spans.current.end (word_count (shape_now m)) (some_words (shape_now m)) room is.goes.spans.0);
           history = none_more _ _ m.replies.items;
           places = refl;
@@ -199,10 +201,14 @@ module _ (b : Beginning) (s : EpochState) (words : List ℕ) (i : ℕ) (m : Muta
     may = begin;
     tables = refl;
     thread_states = refl;
-    mutator = to_phase (limits_of b) rested phase.Asking is.goes is.shows.mutator.regions more tt asks;
+    mutator = to_phase (limits_of b) rested phase.Asking is.goes (of_space is.shows.mutator) more tt asks;
     history = none_more _ _ m.replies.items;
     places = refl;
   }
+
+  -- the operation names registers that it may name
+  named : (o : Op) → op_now m ≡ o → IsFormedFor m.width o
+  named o e = subst (IsFormedFor m.width) e (formed_now rested is.shows.mutator.sound)
 
   -- however an operation begins, that is an event
   starts : (o : Op) → op_now m ≡ o → ToBe (started rested o)
@@ -215,10 +221,10 @@ module _ (b : Beginning) (s : EpochState) (words : List ℕ) (i : ℕ) (m : Muta
   starts (op.Swap dest r k source) e = based_on r k (ap base_of e) (ap (at_once (thread_state_of rested)) e) (more_of (op.Swap dest r k source) e (λ q. cc))
   starts (op.Add r k value) e = based_on r k (ap base_of e) (ap (at_once (thread_state_of rested)) e) (more_of (op.Add r k value) e (λ q. cc))
   starts (op.Move dest source) e =
-      at_once_done reply.Moved (slice_set m.registers dest (register m source)) (with_place rested dest (register m source) is.goes (register_held rested source is.goes))
+      at_once_done reply.Moved (slice_set m.registers dest (register m source)) (with_place rested dest (register m source) (named (op.Move dest source) e).0 is.goes (register_held rested source is.goes))
       (more_of (op.Move dest source) e (λ q. cc)) (ap (at_once (thread_state_of rested)) e)
   starts (op.Nil dest) e =
-      at_once_done reply.Cleared (slice_set m.registers dest nil) (with_place rested dest nil is.goes (omega arith)) (more_of (op.Nil dest) e (λ q. cc)) (ap (at_once (thread_state_of rested)) e)
+      at_once_done reply.Cleared (slice_set m.registers dest nil) (with_place rested dest nil (named (op.Nil dest) e) is.goes (omega arith)) (more_of (op.Nil dest) e (λ q. cc)) (ap (at_once (thread_state_of rested)) e)
   starts (op.Same left right) e =
       at_once_done (reply.Same (nat_eq (register m left).0 (register m right).0)) m.registers is.goes (more_of (op.Same left right) e (λ q. cc)) (ap (at_once (thread_state_of rested)) e)
   starts op.Pause e = asks_next (inl e) (more_of op.Pause e (λ q. cc))
@@ -236,7 +242,7 @@ ready_by b s words i m true shows e =
       may = (refl, equal_numbers (s.tables.cursors PAUSE_WORD) 1 e);
       tables = refl;
       thread_states = refl;
-      mutator = to_finished (limits_of b) n ends.Asked goes shows.mutator.regions (λ q. absurd (cc));
+      mutator = to_finished (limits_of b) n ends.Asked goes (of_space shows.mutator) (λ q. absurd (cc));
       history = none_more _ _ n.replies.items;
       places = refl;
     }

@@ -28,6 +28,7 @@ use Rattle.lxr_mutator.specs.declared.phases.Stop.TheVariants as stop
 use Rattle.lxr_mutator.specs.Mutating.{Mutating, op_now}
 use Rattle.lxr_mutator.specs.Operating.{dest_of}
 use Rattle.lxr_mutator.specs.Steps.{stored}
+use Rattle.lxr_mutator.proofs.NowLemmas.{dest_now}
 use Rattle.lxr_model.specs.Belongs.{writes_reference}
 use Rattle.lxr_core_invariant.specs.Events.{takes_reference}
 use Rattle.lxr_core_invariant.specs.Events as epoch
@@ -35,7 +36,7 @@ use Rattle.lxr_core_invariant.specs.Happening.{WritesReference}
 use Rattle.lxr_core_invariant.specs.EpochStates.{Beginning, EpochState, limits_of}
 use Rattle.lxr_core_sim_mutator.specs.Showing.{IsStoreOf, thread_state_of, written_by}
 use Rattle.lxr_core_sim_mutator.specs.Stepping.{ShowsAs, StepIsEvent}
-use Rattle.lxr_core_sim_mutator.proofs.KeepingLemmas.{GoesOn, goes_on, no_end_now, now_shown, to_done, to_phase, thread_state_done, with_log}
+use Rattle.lxr_core_sim_mutator.proofs.KeepingLemmas.{GoesOn, goes_on, no_end_now, now_shown, of_space, thread_state_done, to_done, to_phase, with_log}
 use Rattle.lxr_core_sim_mutator.proofs.OutcomeLemmas.{IsEventOf, IsEventTo, by_access, in_phase, is_le, none_more, of_event, on_heap, one_more, some_action, some_op, told_above, told_le}
 use Rattle.lxr_core_sim_mutator.proofs.TakingLemmas.{taken_kept, taken_shown}
 use Rattle.lxr_core_sim_mutator.proofs.KnowingLemmas.{reference_there}
@@ -103,7 +104,7 @@ looked b s words i m st false full shows clear e =
       may = record { stage = refl; does = store_shown n begun goes shows.mutator.steady; clear = clear };
       tables = refl;
       thread_states = refl;
-      mutator = to_phase (limits_of b) n (phase.Storing (record st { phase = store.Logged })) goes shows.mutator.regions (shows.mutator.sound.busy refl) (tt, refl)
+      mutator = to_phase (limits_of b) n (phase.Storing (record st { phase = store.Logged })) goes (of_space shows.mutator) (shows.mutator.sound.busy refl) (tt, refl)
           (store_on n begun store.Logged n.log shows.mutator.steady);
       history = none_more _ _ n.replies.items;
       places = refl;
@@ -117,7 +118,7 @@ looked b s words i m st true true shows set e =
       may = record { stage = refl; does = store_shown n begun goes shows.mutator.steady; unlogged = set; full = told_le n.log.room (length n.log.items) e };
       tables = refl;
       thread_states = refl;
-      mutator = to_phase (limits_of b) n (phase.GivingUp stop.LogFull) goes shows.mutator.regions (shows.mutator.sound.busy refl) tt tt;
+      mutator = to_phase (limits_of b) n (phase.GivingUp stop.LogFull) goes (of_space shows.mutator) (shows.mutator.sound.busy refl) tt tt;
       history = none_more _ _ n.replies.items;
       places = refl;
     }
@@ -130,7 +131,7 @@ looked b s words i m st true false shows set e =
       may = tt;
       tables = refl;
       thread_states = same_set s.thread_states i (thread_state_of n) shows.thread_state;
-      mutator = to_phase (limits_of b) n (phase.Storing (record st { phase = store.Unlogged })) goes shows.mutator.regions (shows.mutator.sound.busy refl) (told_above n.log.room (length n.log.items) e, refl)
+      mutator = to_phase (limits_of b) n (phase.Storing (record st { phase = store.Unlogged })) goes (of_space shows.mutator) (shows.mutator.sound.busy refl) (told_above n.log.room (length n.log.items) e, refl)
           (store_on n begun store.Unlogged n.log shows.mutator.steady);
       history = none_more _ _ n.replies.items;
       places = refl;
@@ -165,7 +166,7 @@ unlogged_step b s words i m st shows =
       may = record { stage = refl; does = store_shown n before goes shows.mutator.steady; room = room };
       tables = refl;
       thread_states = refl;
-      mutator = to_phase (limits_of b) n (phase.Storing (record st { phase = store.Loaded found })) goes shows.mutator.regions (shows.mutator.sound.busy refl) (room, refl)
+      mutator = to_phase (limits_of b) n (phase.Storing (record st { phase = store.Loaded found })) goes (of_space shows.mutator) (shows.mutator.sound.busy refl) (room, refl)
           (store_on n before (store.Loaded found) n.log shows.mutator.steady);
       history = none_more _ _ n.replies.items;
       places = refl;
@@ -206,7 +207,7 @@ cleared b s words i m st first true shows set =
       };
       tables = refl;
       thread_states = refl;
-      mutator = to_phase (limits_of b) (record n { log = log }) (phase.Storing (record st { phase = store.Logged })) (with_log n log goes) shows.mutator.regions (shows.mutator.sound.busy refl) (tt, refl)
+      mutator = to_phase (limits_of b) (record n { log = log }) (phase.Storing (record st { phase = store.Logged })) (with_log n log goes) (of_space shows.mutator) (shows.mutator.sound.busy refl) (tt, refl)
           (store_on n before store.Logged log shows.mutator.steady);
       history = none_more _ _ n.replies.items;
       places = refl;
@@ -220,7 +221,7 @@ cleared b s words i m st first false shows clear =
       may = record { stage = refl; does = store_shown n before goes shows.mutator.steady; room = shows.mutator.sound.phase.0; unlogged = clear };
       tables = clear_stays s.tables (word_of st) clear;
       thread_states = refl;
-      mutator = to_phase (limits_of b) n (phase.Storing (record st { phase = store.Logged })) goes shows.mutator.regions (shows.mutator.sound.busy refl) (tt, refl)
+      mutator = to_phase (limits_of b) n (phase.Storing (record st { phase = store.Logged })) goes (of_space shows.mutator) (shows.mutator.sound.busy refl) (tt, refl)
           (store_on n before store.Logged n.log shows.mutator.steady);
       history = none_more _ _ n.replies.items;
       places = refl;
@@ -267,7 +268,7 @@ stores_step b s words i m st shows =
       };
       tables = refl;
       thread_states = ap (slice_set s.thread_states i) (sym (thread_state_done n (op_now n) reply.Stored goes.since (no_end_now n goes more)));
-      mutator = to_done l n reply.Stored goes shows.mutator.regions more;
+      mutator = to_done l n reply.Stored goes (of_space shows.mutator) more;
       history = one_more _ _ n.replies.items reply.Stored;
       places = refl;
     })
@@ -302,7 +303,7 @@ swaps_step b s words i m st shows =
       };
       tables = refl;
       thread_states = ap (slice_set s.thread_states i) (sym (taken_shown n p (nat_eq p.0 0) shows.names goes.since (no_end_now n goes more)));
-      mutator = taken_kept l n p (nat_eq p.0 0) shows.names goes shows.mutator.regions more (ap takes_reference is.now) (omega (arith, low)) refl;
+      mutator = taken_kept l n p (nat_eq p.0 0) shows.names (dest_now n shows.mutator.sound) goes (of_space shows.mutator) more (ap takes_reference is.now) (omega (arith, low)) refl;
       history = refl;
       places = refl;
     }))

@@ -16,7 +16,7 @@ use Rattle.lxr_core_invariant.specs.ThreadStates.{ThreadState, Names, is_end}
 use Rattle.lxr_core_invariant.specs.Events as epoch
 use Rattle.lxr_core_invariant.specs.Happening.{at_stage}
 use Rattle.lxr_core_sim_mutator.specs.Showing.{IsMutatorOf, TakesReference, thread_state_of}
-use Rattle.lxr_core_sim_mutator.proofs.KeepingLemmas.{GoesOn, to_done, to_phase, thread_state_done, with_place}
+use Rattle.lxr_core_sim_mutator.proofs.KeepingLemmas.{GoesOn, IsOfSpace, thread_state_done, to_done, to_phase, with_place}
 
 -- the machine once it took a place, which is nil or not
 abbrev taken_as : Mutating → Place → Bool → Mutating
@@ -43,9 +43,9 @@ taken_shown m p true names below goes =
 taken_shown m p false names below goes = ap (λ (b : Bool). thread_state_of (referring (with_register m (dest_of (op_now m)) p) b p)) names
 
 -- a machine that tells names and took a place is a mutator of the space
-pub taken_kept : (l : Limits) (m : Mutating) (p : Place) (none : Bool) → m.names ≡ true → GoesOn m → m.regions ≡ regions_of l → length m.replies.items < length m.operations → TakesReference m → p.0 ≤ MOST_GRANULES
+pub taken_kept : (l : Limits) (m : Mutating) (p : Place) (none : Bool) → m.names ≡ true → dest_of (op_now m) < m.width → GoesOn m → IsOfSpace l m → length m.replies.items < length m.operations → TakesReference m → p.0 ≤ MOST_GRANULES
     → nat_eq p.0 0 ≡ none → IsMutatorOf l (taken_as m p none)
-taken_kept l m p true names goes regions more takes low e = to_done l (with_register m (dest_of (op_now m)) p) (found_reply (op_now m) None) (with_place m (dest_of (op_now m)) p goes low) regions more
-taken_kept l m p false names goes regions more takes low e =
+taken_kept l m p true names named goes space more takes low e = to_done l (with_register m (dest_of (op_now m)) p) (found_reply (op_now m) None) (with_place m (dest_of (op_now m)) p named goes low) space more
+taken_kept l m p false names named goes space more takes low e =
     subst (λ (b : Bool). IsMutatorOf l (referring (with_register m (dest_of (op_now m)) p) b p)) (sym names)
-    (to_phase l (with_register m (dest_of (op_now m)) p) (phase.Referent p) (with_place m (dest_of (op_now m)) p goes low) regions more (grind (arith, e), low) takes)
+    (to_phase l (with_register m (dest_of (op_now m)) p) (phase.Referent p) (with_place m (dest_of (op_now m)) p named goes low) space more (grind (arith, e), low) takes)

@@ -189,4 +189,5 @@ IsSteadyIn m _ = ⊤
 pub record IsMutatorOf (l : Limits) (m : Mutating) : Type 0 where
   pub sound : IsMutator m
   pub regions : m.regions ≡ regions_of l
+  pub width : m.width ≡ l.registers
   pub steady : IsSteadyIn m m.phase

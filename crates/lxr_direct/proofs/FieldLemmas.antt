@@ -7,6 +7,7 @@ use Rattle.std.proofs.lemmas.Bool.Decides.{leb_tells}
 use Rattle.std.proofs.lemmas.Option.{slice_get-get_or}
 use Rattle.std.proofs.lemmas.List.{length-append}
 use Rattle.std.proofs.lemmas.List.Sorted.{IsPermutation-append_comm, IsPermutation-append_right, IsPermutation-trans}
+use Rattle.lxr_layout.specs.declared.TheConstants.{REGISTERS}
 use Rattle.lxr_layout.specs.declared.LogEntry.{LogEntry}
 use Rattle.lxr_layout.specs.declared.Name.{Name}
 use Rattle.lxr_layout.specs.declared.Place.{Place}
@@ -152,7 +153,7 @@ module _ (s : Space) (g : AbstractState) (t serial : ℕ) (may : MayOperate s g 
           stands = ap (λ z. z % 2 ^ 32) word ∙ small_word (place_word g.at (referred i)) (small_place tables s.limits.blocks g.at m (referred i) image may.rests.safepoint.holds.space.limits.blocks.1 held);
         }
 
-    pub load_done : (dest i : ℕ) (r : Option Name) → (dest < 16) × (register < 16) → i < base.shape.refs → r ≡ referred i
+    pub load_done : (dest i : ℕ) (r : Option Name) → (dest < REGISTERS) × (register < REGISTERS) → i < base.shape.refs → r ≡ referred i
         → IsDone s (with_places s (slice_set s.registers.items (register_index t dest) (found i))) g t (op.Load dest register i) (reply.Loaded r)
     load_done dest i r small within is =
         let step_is = load_ok m.state t dest register i n o at.is at.there (subst (λ z. i < z) refs_are within) in
@@ -179,7 +180,7 @@ module _ (s : Space) (g : AbstractState) (t serial : ℕ) (may : MayOperate s g 
       | inr e ↦ (p, e.1 ∙ there, refl)
     ]
 
-    pub put_done : (i v w : ℕ) (after : Space) → register < 16 → i < base.shape.values → w ≡ first_word base.place.0 + 1 + base.shape.refs + i → Turns s after (record tables { heap = changed tables.heap w v })
+    pub put_done : (i v w : ℕ) (after : Space) → register < REGISTERS → i < base.shape.values → w ≡ first_word base.place.0 + 1 + base.shape.refs + i → Turns s after (record tables { heap = changed tables.heap w v })
         → IsDone s after g t (op.Put register i v) reply.Put
     put_done i v w after small within is turns =
         let inside = subst (λ z. i < z) values_are within in
@@ -262,7 +263,7 @@ module _ (s : Space) (g : AbstractState) (t serial : ℕ) (may : MayOperate s g 
         written_now i ∙ ap (λ b. cond b (with_field m.written (n, i)) m.written) (subst (λ z. IsTrue (has m.unreclaimed z)) name is.unreclaimed)
         ∙ ap (λ b. cond b m.written ((n, i) ∷ m.written)) (subst (λ z. has_field m.written (z, i) ≡ false) name is.unwritten)
 
-    module _ (i source : ℕ) (p : Place) (small : (register < 16) × (source < 16)) (within : i < base.shape.refs) (there : slice_get s.registers.items (register_index t source) ≡ Some p) where
+    module _ (i source : ℕ) (p : Place) (small : (register < REGISTERS) × (source < REGISTERS)) (within : i < base.shape.refs) (there : slice_get s.registers.items (register_index t source) ≡ Some p) where
       abbrev v : Option Name
       v = register_at m.state t source
 

@@ -2,7 +2,7 @@
 use Rattle.std.proofs.Common.{◌≡◌, ◌≢◌, ℕ, zero, suc, ◌+◌, ◌-◌, ◌*◌, ◌<◌, ◌≤◌, refl, sym, ap, subst, ◌∙◌, inl, inr, arith, true, false, nat_eq, List, [], ◌∷◌, length, get_or}
 use Rattle.std.specs.Prelude.{◌↔◌, Option, Some, None, IsTrue, slice_get}
 use Rattle.std.proofs.lemmas.Bool.Decides.{eqb_tells}
-use Rattle.lxr_layout.specs.declared.TheConstants.{GRANULES_IN_BLOCK, MOST_BLOCKS, WORDS_IN_BLOCK}
+use Rattle.lxr_layout.specs.declared.TheConstants.{GRANULES_IN_BLOCK, MOST_BLOCKS, REGISTERS, WORDS_IN_BLOCK}
 use Rattle.lxr_layout.specs.declared.Header.TheVariants as header
 use Rattle.lxr_layout.specs.declared.Name.{Name}
 use Rattle.lxr_layout.specs.declared.Place.{Place}
@@ -32,15 +32,15 @@ place_read at (q ∷ qs) [] i p same there = absurd (cc)
 place_read at (q ∷ qs) (v ∷ vs) zero p same there = let e : q ≡ p = cc in let head : q.0 ≡ place_word at v = cc in ap (λ z. z.0) (sym e) ∙ head
 place_read at (q ∷ qs) (v ∷ vs) (suc i) p same there = place_read at qs vs i p (cc) there
 
--- there are sixteen registers for each thread
-pub many_registers : (s : Space) (g : AbstractState) (t serial : ℕ) → MayOperate s g t serial → 16 * t ≤ length s.registers.items
+-- there are 256 registers for each thread
+pub many_registers : (s : Space) (g : AbstractState) (t serial : ℕ) → MayOperate s g t serial → REGISTERS * t ≤ length s.registers.items
 many_registers s g t serial may =
     let many = may.rests.safepoint.holds.as_many.0 in
     let within = may.thread.1 in
     omega (arith, many, within)
 
 -- a register of the thread is one of the space
-pub register_there : (t threads r n : ℕ) → 1 ≤ t → 16 * t ≤ n → r < 16 → register_index t r < n
+pub register_there : (t threads r n : ℕ) → 1 ≤ t → REGISTERS * t ≤ n → r < REGISTERS → register_index t r < n
 register_there t threads r n some many small = omega (arith, some, many, small)
 
 -- the place in a register is that of what the model's register holds

@@ -2,8 +2,10 @@
 use Rattle.std.proofs.Common.{◌≡◌, ℕ, ◌+◌, ◌-◌, ◌*◌, ◌<◌, ◌≤◌, refl, sym, ap, subst, ◌∙◌, arith, List, ◌++◌, length, map, nat_eq, replicate, take, drop}
 use Rattle.std.specs.Prelude.{Option, Some, None, slice_get, slice_set}
 use Rattle.std.proofs.lemmas.List.{drop-map, length-append, length-drop, length-set, length-take, map-append, take-map}
+use Rattle.lxr_layout.specs.declared.TheConstants.{REGISTERS}
 use Rattle.lxr_layout.specs.declared.Name.{Name}
 use Rattle.lxr_layout.specs.declared.Place.{Place}
+use Rattle.lxr_layout.specs.Registers.{nil}
 use Rattle.lxr_graph.specs.declared.Op.{Op}
 use Rattle.lxr_graph.specs.declared.Op.TheVariants as op
 use Rattle.lxr_graph.specs.declared.Reply.{Reply}
@@ -22,7 +24,7 @@ use Rattle.lxr_invariant.specs.AbstractState.{AbstractState}
 use Rattle.lxr_core_invariant.proofs.HeldLemmas.{in_register}
 use Rattle.lxr_core_invariant.proofs.TellingLemmas.{same_by_place}
 use Rattle.lxr_placing.proofs.ServedLemmas.{row_of_thread}
-use Rattle.lxr_direct.specs.Operating.{IsDone, MayOperate, nil, with_places, without_registers}
+use Rattle.lxr_direct.specs.Operating.{IsDone, MayOperate, with_places, without_registers}
 use Rattle.lxr_direct.proofs.DoneLemmas.{MakesNothing, done_turned, done_unchanged, holding, registers_turned}
 use Rattle.lxr_direct.proofs.HeldLemmas.{register_place}
 use Rattle.lxr_direct.proofs.TurnedLemmas.{turned}
@@ -49,12 +51,12 @@ register_turned s g t serial dest o r p v leaves may formed is_reply moment repl
     (register_keeps_places g.at s.registers.items g.moment.state.registers (register_index t dest) p v may.rests.safepoint.holds.image.registers place)
     (length-set s.registers.items (register_index t dest) p))
 
-pub move_done : (s : Space) (g : AbstractState) (t serial dest source : ℕ) (p : Place) → MayOperate s g t serial → (dest < 16) × (source < 16) → slice_get s.registers.items (register_index t source) ≡ Some p
+pub move_done : (s : Space) (g : AbstractState) (t serial dest source : ℕ) (p : Place) → MayOperate s g t serial → (dest < REGISTERS) × (source < REGISTERS) → slice_get s.registers.items (register_index t source) ≡ Some p
     → IsDone s (with_places s (slice_set s.registers.items (register_index t dest) p)) g t (op.Move dest source) reply.Moved
 move_done s g t serial dest source p may small there =
     register_turned s g t serial dest (op.Move dest source) reply.Moved p (register_at g.moment.state t source) (λ after kept. kept) may small (refl, (row_there s g t serial may).0, (row_there s g t serial may).1) refl refl (register_place s g t serial source p may there)
 
-pub nil_done : (s : Space) (g : AbstractState) (t serial dest : ℕ) → MayOperate s g t serial → dest < 16
+pub nil_done : (s : Space) (g : AbstractState) (t serial dest : ℕ) → MayOperate s g t serial → dest < REGISTERS
     → IsDone s (with_places s (slice_set s.registers.items (register_index t dest) nil)) g t (op.Nil dest) reply.Cleared
 nil_done s g t serial dest may small =
     register_turned s g t serial dest (op.Nil dest) reply.Cleared nil None (λ after kept. kept) may small (refl, (row_there s g t serial may).0, (row_there s g t serial may).1) refl refl refl
@@ -74,29 +76,29 @@ same_done s g t serial left right p q may there_p there_q =
 
 -- ---- the end
 
--- sixteen in a row are nil
+-- 256 in a row are nil
 cleared_places : (at : Name → ℕ) (places : List Place) (held : List (Option Name)) (t : ℕ) → ArePlacesOf at places held → ArePlacesOf at (without_registers places t) (cleared held t)
 cleared_places at places held t are =
-    let a : ℕ = 16 * (t - 1) in
-    let b : ℕ = 16 * (t - 1) + 16 in
+    let a : ℕ = REGISTERS * (t - 1) in
+    let b : ℕ = REGISTERS * (t - 1) + REGISTERS in
     let f : Place → ℕ = λ p. p.0 in
     let h : Option Name → ℕ = place_word at in
-    map-append f (take a places ++ replicate 16 nil) (drop b places)
-    ∙ ap (λ z. z ++ map f (drop b places)) (map-append f (take a places) (replicate 16 nil))
-    ∙ ap (λ z. (z ++ map f (replicate 16 nil)) ++ map f (drop b places)) (sym (take-map f a places) ∙ ap (take a) are ∙ take-map h a held)
-    ∙ ap (λ z. (map h (take a held) ++ map h (replicate 16 None)) ++ z) (sym (drop-map f b places) ∙ ap (drop b) are ∙ drop-map h b held)
-    ∙ ap (λ z. z ++ map h (drop b held)) (sym (map-append h (take a held) (replicate 16 None)))
-    ∙ sym (map-append h (take a held ++ replicate 16 None) (drop b held))
+    map-append f (take a places ++ replicate REGISTERS nil) (drop b places)
+    ∙ ap (λ z. z ++ map f (drop b places)) (map-append f (take a places) (replicate REGISTERS nil))
+    ∙ ap (λ z. (z ++ map f (replicate REGISTERS nil)) ++ map f (drop b places)) (sym (take-map f a places) ∙ ap (take a) are ∙ take-map h a held)
+    ∙ ap (λ z. (map h (take a held) ++ map h (replicate REGISTERS None)) ++ z) (sym (drop-map f b places) ∙ ap (drop b) are ∙ drop-map h b held)
+    ∙ ap (λ z. z ++ map h (drop b held)) (sym (map-append h (take a held) (replicate REGISTERS None)))
+    ∙ sym (map-append h (take a held ++ replicate REGISTERS None) (drop b held))
 
-length_cleared : (places : List Place) (t : ℕ) → 16 * (t - 1) + 16 ≤ length places → length (without_registers places t) ≡ length places
+length_cleared : (places : List Place) (t : ℕ) → REGISTERS * (t - 1) + REGISTERS ≤ length places → length (without_registers places t) ≡ length places
 length_cleared places t many =
-    let a = length-take (16 * (t - 1)) places in
-    let b = length-drop (16 * (t - 1) + 16) places in
-    length-append (take (16 * (t - 1)) places ++ replicate 16 nil) (drop (16 * (t - 1) + 16) places)
-    ∙ ap (λ z. z + length (drop (16 * (t - 1) + 16) places)) (length-append (take (16 * (t - 1)) places) (replicate 16 nil))
+    let a = length-take (REGISTERS * (t - 1)) places in
+    let b = length-drop (REGISTERS * (t - 1) + REGISTERS) places in
+    length-append (take (REGISTERS * (t - 1)) places ++ replicate REGISTERS nil) (drop (REGISTERS * (t - 1) + REGISTERS) places)
+    ∙ ap (λ z. z + length (drop (REGISTERS * (t - 1) + REGISTERS) places)) (length-append (take (REGISTERS * (t - 1)) places) (replicate REGISTERS nil))
     ∙ grind (arith, a, b, many)
 
-pub end_done : (s : Space) (g : AbstractState) (t serial : ℕ) → MayOperate s g t serial → 16 * (t - 1) + 16 ≤ length s.registers.items → IsDone s (with_places s (without_registers s.registers.items t)) g t op.End reply.Ended
+pub end_done : (s : Space) (g : AbstractState) (t serial : ℕ) → MayOperate s g t serial → REGISTERS * (t - 1) + REGISTERS ≤ length s.registers.items → IsDone s (with_places s (without_registers s.registers.items t)) g t op.End reply.Ended
 end_done s g t serial may many =
     let held : List (Option Name) = cleared g.moment.state.registers t in
     done_turned s g t serial op.End reply.Ended (holding g.moment.state held) g.moment.written s.words (without_registers s.registers.items t) s.logged.items (λ after kept. kept) may refl refl

@@ -1,10 +1,11 @@
 -- What an operation comes to that a thread does at once, on a space at rest.
-use Rattle.std.specs.Prelude.{◌≡◌, ℕ, ◌+◌, ◌-◌, ◌*◌, ◌<◌, ◌≤◌, ◌++◌, false, Option, None, Some, List, IsTrue, length, replicate, take, drop}
+use Rattle.std.specs.Prelude.{◌≡◌, ℕ, ◌+◌, ◌-◌, ◌*◌, ◌<◌, ◌≤◌, false, Option, None, Some, List, IsTrue, length, replicate}
 use Rattle.lxr_layout.specs.declared.Name.{Name}
 use Rattle.lxr_layout.specs.declared.Place.{Place}
 use Rattle.lxr_layout.specs.declared.Shape.{Shape}
-use Rattle.lxr_layout.specs.declared.TheConstants.{WORDS_IN_BLOCK}
+use Rattle.lxr_layout.specs.declared.TheConstants.{REGISTERS, WORDS_IN_BLOCK}
 use Rattle.lxr_layout.specs.Places.{IsPlace, first_word}
+use Rattle.lxr_layout.specs.Registers.{nil}
 use Rattle.lxr_graph.specs.declared.Op.{Op}
 use Rattle.lxr_graph.specs.declared.Op.TheVariants as op
 use Rattle.lxr_graph.specs.declared.Reply.{Reply}
@@ -13,6 +14,7 @@ use Rattle.lxr_graph.specs.State.{Object, State, next_name, object_at, refs_of, 
 use Rattle.lxr_graph.specs.Step.{step}
 use Rattle.lxr_image.specs.declared.space.Space.{Space}
 use Rattle.lxr_image.specs.Image.{place_word}
+use Rattle.lxr_image.specs.Registers.{with_row}
 use Rattle.lxr_image.specs.Spaces.{tables_of}
 use Rattle.lxr_image.specs.Tables.{Tables}
 use Rattle.lxr_blocks.specs.Placing.{IsFull, IsPlaced}
@@ -83,17 +85,13 @@ CanOperate s t = (g : AbstractState) × (serial : ℕ) × MayOperate s g t seria
 
 -- ---- registers
 
--- the place of nil
-abbrev pub nil : Place
-nil = record { 0 = 0 }
-
 -- the space whose registers hold these places
 abbrev pub with_places : Space → List Place → Space
 with_places s places = record s { registers = record s.registers { items = places } }
 
--- the sixteen registers of thread t are nil
+-- the 256 registers of thread t are nil
 abbrev pub without_registers : List Place → ℕ → List Place
-without_registers places t = take (16 * (t - 1)) places ++ replicate 16 nil ++ drop (16 * (t - 1) + 16) places
+without_registers places t = with_row places (t - 1) (replicate REGISTERS nil)
 
 -- ---- which operations there are
 

@@ -16,7 +16,7 @@ use lxr_layout::field_word;
 #[inline(always)]
 pub fn load(space: &mut Space, thread: u8, dest: u8, base: u8, index: u16) -> Reply
     requires state { CanOperate space.old thread }
-    requires registers { (dest < 16) × (base < 16) }
+    requires dest { dest < space.old.limits.registers }
     ensures { (g : AbstractState) (serial : ℕ) → MayOperate space.old g thread serial → IsDone space.old space.new g thread (op.Load dest base index) result }
 {
     let Some(object) = base_of(space, thread, base) else {
@@ -36,7 +36,6 @@ pub fn load(space: &mut Space, thread: u8, dest: u8, base: u8, index: u16) -> Re
 #[inline(always)]
 pub fn store(space: &mut Space, thread: u8, base: u8, index: u16, source: u8) -> Operated
     requires state { CanOperate space.old thread }
-    requires registers { (base < 16) × (source < 16) }
     ensures { (g : AbstractState) (serial : ℕ) → MayOperate space.old g thread serial → Operates space.old space.new g thread (op.Store base index source) result }
 {
     let Some(object) = base_of(space, thread, base) else {
@@ -57,7 +56,6 @@ pub fn store(space: &mut Space, thread: u8, base: u8, index: u16, source: u8) ->
 #[inline(always)]
 pub fn put(space: &mut Space, thread: u8, base: u8, index: u16, value: u64) -> Reply
     requires state { CanOperate space.old thread }
-    requires registers { base < 16 }
     ensures { (g : AbstractState) (serial : ℕ) → MayOperate space.old g thread serial → IsDone space.old space.new g thread (op.Put base index value) result }
 {
     let Some(object) = base_of(space, thread, base) else {
@@ -74,7 +72,6 @@ pub fn put(space: &mut Space, thread: u8, base: u8, index: u16, value: u64) -> R
 #[inline(always)]
 pub fn get(space: &Space, thread: u8, base: u8, index: u16) -> Reply
     requires state { CanOperate space.now thread }
-    requires registers { base < 16 }
     ensures { (g : AbstractState) (serial : ℕ) → MayOperate space.now g thread serial → IsDone space.now space.now g thread (op.Get base index) result }
 {
     let Some(object) = base_of(space, thread, base) else {

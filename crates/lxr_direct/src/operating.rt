@@ -1,7 +1,7 @@
 //! One operation, done at once.
 ghost use Rattle.std.specs.Prelude.{◌≡◌, ℕ, ◌*◌, ◌≤◌, ◌<◌, ◌^◌};
 ghost use Rattle.lxr_layout.specs.Objects.{FitsShape};
-ghost use Rattle.lxr_graph.specs.Step.{IsWellFormed};
+ghost use Rattle.lxr_graph.specs.Step.{IsFormedFor};
 ghost use Rattle.lxr_graph.specs.declared.Op.TheVariants as op;
 ghost use Rattle.lxr_graph.specs.declared.Reply.TheVariants as reply;
 ghost use Rattle.lxr_invariant.specs.AbstractState.{AbstractState};
@@ -19,7 +19,7 @@ use lxr_placing::serve;
 #[inline(always)]
 fn move_register(space: &mut Space, thread: u8, dest: u8, source: u8)
     requires state { CanOperate space.old thread }
-    requires registers { (dest < 16) × (source < 16) }
+    requires dest { dest < space.old.limits.registers }
     ensures { (g : AbstractState) (serial : ℕ) → MayOperate space.old g thread serial → IsDone space.old space.new g thread (op.Move dest source) reply.Moved }
 {
     let place = held(space, thread, source);
@@ -30,17 +30,16 @@ fn move_register(space: &mut Space, thread: u8, dest: u8, source: u8)
 #[inline(always)]
 fn nil_register(space: &mut Space, thread: u8, dest: u8)
     requires state { CanOperate space.old thread }
-    requires registers { dest < 16 }
+    requires dest { dest < space.old.limits.registers }
     ensures { (g : AbstractState) (serial : ℕ) → MayOperate space.old g thread serial → IsDone space.old space.new g thread (op.Nil dest) reply.Cleared }
 {
-    hold(space, thread, dest, Place(0));
+    hold(space, thread, dest, Place::NIL);
 }
 
 /// Whether both registers are nil or hold one object.
 #[inline(always)]
 pub fn same(space: &Space, thread: u8, left: u8, right: u8) -> bool
     requires state { CanOperate space.now thread }
-    requires registers { (left < 16) × (right < 16) }
     ensures { (g : AbstractState) (serial : ℕ) → MayOperate space.now g thread serial → IsDone space.now space.now g thread (op.Same left right) (reply.Same result) }
 {
     held(space, thread, left).0 == held(space, thread, right).0
@@ -58,7 +57,7 @@ fn end(space: &mut Space, thread: u8)
 #[inline(always)]
 fn make(space: &mut Space, thread: u8, serial: u32, dest: u8, shape: Shape) -> Operated
     requires state { (g : AbstractState) × MayOperate space.old g thread serial }
-    requires dest { dest < 16 }
+    requires dest { dest < space.old.limits.registers }
     requires shape { FitsShape shape }
     ensures { (g : AbstractState) → MayOperate space.old g thread serial → Operates space.old space.new g thread (op.New dest shape) result }
 {
@@ -75,7 +74,7 @@ fn make(space: &mut Space, thread: u8, serial: u32, dest: u8, shape: Shape) -> O
 #[inline(always)]
 pub fn operate(space: &mut Space, thread: u8, serial: u32, op: Op) -> Operated
     requires state { (g : AbstractState) × MayOperate space.old g thread serial }
-    requires op { IsWellFormed op }
+    requires op { IsFormedFor space.old.limits.registers op }
     requires version { IsOfFirstVersion op }
     ensures { (g : AbstractState) → MayOperate space.old g thread serial → Operates space.old space.new g thread op result }
 {

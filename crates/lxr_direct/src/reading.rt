@@ -51,7 +51,6 @@ pub fn name_at(space: &Space, place: Place) -> Option<Name>
 #[inline(always)]
 pub fn name_in(space: &Space, thread: u8, register: u8) -> Option<Name>
     requires state { CanOperate space.now thread }
-    requires register { register < 16 }
     ensures { (g : AbstractState) (serial : ℕ) → MayOperate space.now g thread serial → result ≡ register_at g.moment.state thread register }
 {
     let place = held(space, thread, register);
@@ -62,7 +61,6 @@ pub fn name_in(space: &Space, thread: u8, register: u8) -> Option<Name>
 #[inline(always)]
 pub fn object_in(space: &Space, thread: u8, register: u8) -> Option<(Name, Shape)>
     requires state { CanOperate space.now thread }
-    requires register { register < 16 }
     ensures { (g : AbstractState) (serial : ℕ) → MayOperate space.now g thread serial → result ≡ named_shape g.moment.state (register_at g.moment.state thread register) }
 {
     let place = held(space, thread, register);
@@ -73,7 +71,6 @@ pub fn object_in(space: &Space, thread: u8, register: u8) -> Option<(Name, Shape
 #[inline(always)]
 pub fn is_nil(space: &Space, thread: u8, register: u8) -> bool
     requires state { CanOperate space.now thread }
-    requires register { register < 16 }
     ensures { (g : AbstractState) (serial : ℕ) → MayOperate space.now g thread serial → IsTrue result ↔ (register_at g.moment.state thread register ≡ None) }
 {
     held(space, thread, register).0 == 0
@@ -83,7 +80,6 @@ pub fn is_nil(space: &Space, thread: u8, register: u8) -> bool
 #[inline(always)]
 pub fn base_of(space: &Space, thread: u8, register: u8) -> Option<Base>
     requires state { CanOperate space.now thread }
-    requires register { register < 16 }
     ensures holds { (g : AbstractState) (serial : ℕ) → MayOperate space.now g thread serial → IsBase g thread register result }
     ensures inside { ForSome result (LiesInside space.now) }
 {

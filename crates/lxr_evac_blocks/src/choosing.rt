@@ -28,7 +28,7 @@ fn choose_block(space: &mut Space, block: u32, left: u32) -> u32
     left
 }
 
-/// Chooses the blocks of a small heap: the first that may be chosen, in order. Each is looked at once.
+/// Chooses the blocks of a small heap: the first that may be chosen, in order. Each is looked at once, until as many are chosen as may be.
 fn choose_first(space: &mut Space)
     requires space { IsSpace space.old }
     requires small { space.old.limits.blocks ≤ MOST_BLOCKS_OF_SMALL }
@@ -76,7 +76,9 @@ fn choose_emptiest(space: &mut Space)
 /// at most `MOST_BLOCKS_OF_SMALL` blocks they are the first such blocks, in order; in a larger one those of which the fewest lines aren't free,
 /// and of as many the first.
 ///
-/// Each block is looked at by the mask of its free lines: once in a small heap, twice in a larger one, and not at all where none may be Chosen.
+/// In a small heap it goes over the blocks once, and looks at none once as many are Chosen as may be; in a larger one it goes over all of them
+/// twice, and where none may be Chosen over none. Of each block that it looks at it reads the state, and of a Partly one the mask of its free
+/// lines.
 pub fn choose_blocks(space: &mut Space)
     requires { IsSpace space.old }
     ensures tables { Turns space.old space.new (with_choice space.old.limits (tables_of space.old)) }

@@ -5,7 +5,7 @@ use Rattle.std.specs.List.Sorted.{IsPermutation}
 use Rattle.std.proofs.lemmas.Bool.Decides.{eqb_tells, nat_tests}
 use Rattle.std.proofs.lemmas.Option.{get_or_from_slice_get, slice_get_within}
 use Rattle.lxr_layout.specs.declared.Name.{Name}
-use Rattle.lxr_layout.specs.declared.TheConstants.{DECREMENT_COUNT, DECREMENT_CURSOR, GRANULES_IN_BLOCK, STUCK, TRACING_WORD, GRANULES_IN_LINE, LINES_IN_BLOCK}
+use Rattle.lxr_layout.specs.declared.TheConstants.{DECREMENT_COUNT, DECREMENT_CURSOR, GRANULES_IN_BLOCK, GRANULES_IN_LINE, LINES_IN_BLOCK, REGISTERS, STUCK, TRACING_WORD}
 use Rattle.lxr_layout.specs.Places.{field_word}
 use Rattle.lxr_graph.specs.Names.{IsSetOf, has, same_name}
 use Rattle.lxr_graph.specs.State.{Object, object_at, refs_of, world_name}
@@ -278,13 +278,13 @@ module _ (s : Space) (m : Moment) (st : EvacuationStage) (is : IsEvacuating s m 
   logs_then = subst (λ l. AreLogged m st.now l.items) (sym logged_same)
       (subst (λ es. IsPermutation es st.found.logged.items) (ap (map (entry_of m st.at)) is.can.settled.none_written ∙ sym (ap (map (entry_of m st.now)) is.can.settled.none_written)) was.logs)
 
-  registers_many : length s.registers.items ≡ 16 * s.limits.threads
+  registers_many : length s.registers.items ≡ REGISTERS * s.limits.threads
   registers_many =
-      is.registers.as_many ∙ sym (held_began st.at st.found.registers.items m.state.registers was.image.registers).as_many ∙ was.as_many.0 ∙ ap (λ l. 16 * l.threads) (sym limits_same)
+      is.registers.as_many ∙ sym (held_began st.at st.found.registers.items m.state.registers was.image.registers).as_many ∙ was.as_many.0 ∙ ap (λ l. REGISTERS * l.threads) (sym limits_same)
 
-  deferred_many : length s.deferred.items ≡ 16 * s.limits.threads
+  deferred_many : length s.deferred.items ≡ REGISTERS * s.limits.threads
   deferred_many =
-      is.deferred.as_many ∙ sym (held_began st.at st.found.deferred.items m.last.registers was.image.deferred).as_many ∙ was.as_many.1 ∙ ap (λ l. 16 * l.threads) (sym limits_same)
+      is.deferred.as_many ∙ sym (held_began st.at st.found.deferred.items m.last.registers was.image.deferred).as_many ∙ was.as_many.1 ∙ ap (λ l. REGISTERS * l.threads) (sym limits_same)
 
   -- ---- the moment
 

@@ -3,9 +3,11 @@ use Rattle.std.proofs.Common.{◌≡◌, ◌≢◌, ℕ, suc, ◌+◌, ◌<◌, 
 use Rattle.std.specs.Prelude.{IsTrue, None, Option, Some, slice_get, slice_set, slice_index_or}
 use Rattle.std.proofs.Math.ListN.{length-set}
 use Rattle.std.proofs.lemmas.Bool.Decides.{eqb_tells}
-use Rattle.std.proofs.lemmas.Option.{slice_get-get_or, slice_get_within}
+use Rattle.std.proofs.lemmas.Option.{get_or_from_slice_get, slice_get-get_or, slice_get_within}
 use Rattle.lxr_layout.specs.declared.Name.{Name}
 use Rattle.lxr_layout.specs.declared.Place.{Place}
+use Rattle.lxr_layout.specs.Registers.{AreNil, held_at, nil}
+use Rattle.lxr_image.proofs.PassedLemmas.{nil_there, passed_over}
 use Rattle.lxr_image.proofs.SpaceLemmas.{space_alike}
 use Rattle.lxr_graph.proofs.RowLemmas.{slice_get-set}
 use Rattle.lxr_image.specs.declared.space.Space.{Space}
@@ -13,13 +15,14 @@ use Rattle.lxr_image.specs.Spaces.{tables_of}
 use Rattle.lxr_image.specs.Image.{ArePlacesOf, place_word}
 use Rattle.lxr_model.specs.Moments.{Moment}
 use Rattle.lxr_model.specs.Reachable.{held as held_by}
-use Rattle.lxr_pause_promote.specs.Either.{HoldEither, HoldsEither}
+use Rattle.lxr_pause_promote.specs.Either.{HoldEither, HoldsEither, IsPlaceOf}
 use Rattle.lxr_evac_moving.specs.Stages.{EvacuationStage, HasHeap, IsEvacuating, with_changed_tables, with_changes}
 use Rattle.lxr_graph.specs.Names.{has}
 use Rattle.lxr_evac_moving.specs.declared.registers.Registers.{Registers}
 use Rattle.lxr_evac_moving.specs.declared.registers.Registers.TheVariants.{AtLastPause, Now}
 use Rattle.lxr_evac_moving.specs.Steps.{HoldNow, HoldsMember, held_names, held_places, with_places}
 use Rattle.lxr_evac_moving.proofs.FrameLemmas.{bits_same, evacuating_with, heap_same, lines_same}
+use Rattle.lxr_evac_moving.proofs.StageLemmas.{place_some}
 use Rattle.lxr_evac_moving.proofs.StandingLemmas.{held_unreclaimed}
 
 -- ---- lists of places
@@ -146,6 +149,10 @@ pub held_either : (s : Space) (m : Moment) (st : EvacuationStage) (registers : R
 held_either s m st Now is = is.registers
 held_either s m st AtLastPause is = is.deferred
 
+-- at two spaces of a stage there are as many registers
+pub as_many_held : (s now : Space) (m : Moment) (st : EvacuationStage) (registers : Registers) → IsEvacuating s m st → IsEvacuating now m st → length (held_places registers now) ≡ length (held_places registers s)
+as_many_held s now m st registers is then_is = (held_either now m st registers then_is).as_many ∙ sym (held_either s m st registers is).as_many
+
 held_member : (s : Space) (m : Moment) (st : EvacuationStage) (registers : Registers) (n : Name) → IsEvacuating s m st → ((k : ℕ) × (slice_get (held_names registers m) k ≡ Some (Some n))) → IsTrue (has m.unreclaimed n)
 held_member s m st Now n is held = held_unreclaimed s m st is n held
 held_member s m st AtLastPause n is held = is.can.holds.follows.kept n (held_by held)
@@ -158,6 +165,27 @@ register_member s m st registers k p is place_is =
       either = either_there st (held_places registers s) (held_names registers m) either k p place_is;
       member = λ n e. held_member s m st registers n is (k, held_there st (held_places registers s) (held_names registers m) either k p place_is ∙ ap Some e);
     }
+
+-- a register holds something, or nil, which is what it is to hold
+something_or_now : (s : Space) (m : Moment) (st : EvacuationStage) (p : ℕ) (r : Option Name) → IsEvacuating s m st → HoldsMember m st p r → (1 ≤ p) ⊎ (p ≡ place_word st.now r)
+something_or_now s m st p None is holds = elim holds.either [ inl e ↦ inr e | inr e ↦ inr e ]
+something_or_now s m st p (Some n) is holds = inl (place_some s m st is n p (holds.member n refl) (elim holds.either as (λ z. IsPlaceOf st.at st.now n p) [ inl e ↦ inr e | inr e ↦ inl e ])).0
+
+-- so one that is to hold another place holds something
+pub register_some : (s : Space) (m : Moment) (st : EvacuationStage) (registers : Registers) (k q : ℕ) (p : Place) → IsEvacuating s m st → slice_get (held_places registers s) k ≡ Some p
+    → q ≡ place_word st.now (slice_index_or (held_names registers m) k None) → q ≢ p.0 → held_at (held_places registers s) k ≢ nil
+register_some s m st registers k q p is place_is now differ none = elim (something_or_now s m st p.0 (slice_index_or (held_names registers m) k None) is (register_member s m st registers k p is place_is)) [
+  | inl some ↦ let zero_place : p.0 ≡ 0 = ap (λ z. z.0) (sym (get_or_from_slice_get (held_places registers s) k p nil place_is) ∙ none) in absurd (omega (arith, some, zero_place))
+  | inr same ↦ absurd (differ (now ∙ sym same))
+]
+
+-- and registers that are nil hold what they are to hold
+pub registers_passed : (s : Space) (m : Moment) (st : EvacuationStage) (registers : Registers) (from to : ℕ) → IsEvacuating s m st → from ≤ to → to ≤ length (held_places registers s) → AreNil (held_places registers s) from to
+    → HoldNow st (held_places registers s) (held_names registers m) from → HoldNow st (held_places registers s) (held_names registers m) to
+registers_passed s m st registers from to is low end are = passed_over (HoldNow st (held_places registers s) (held_names registers m)) from to low (λ k above below before.
+    let there = nil_there (held_places registers s) from to k are end above below in
+    now_kept st (held_places registers s) (held_names registers m) (held_either s m st registers is) k nil there
+    (elim (something_or_now s m st 0 (slice_index_or (held_names registers m) k None) is (register_member s m st registers k nil is there)) [ inl some ↦ absurd (omega (arith, some)) | inr same ↦ same ]) before)
 
 -- both lists of registers hold either place where the one that was written does
 evacuating_set : (a b : Space) (m : Moment) (st : EvacuationStage) (registers : Registers) (places : List Place) → IsEvacuating a m st → b ≡ with_places registers a places

@@ -1,5 +1,6 @@
 //! Fixing the registers that hold moved objects, as they are now and as they were at the last pause.
-ghost use Rattle.std.specs.Prelude.{◌≡◌, ◌<◌, Some, length, slice_get, slice_set};
+ghost use Rattle.std.specs.Prelude.{◌≡◌, ◌≢◌, ◌<◌, ◌≤◌, Some, length, slice_get, slice_set};
+ghost use Rattle.lxr_layout.specs.Registers.{AreNil, held_at, nil};
 ghost use Rattle.lxr_image.specs.Image.{ArePlacesOf};
 ghost use Rattle.lxr_model.specs.Moments.{Moment};
 ghost use Rattle.lxr_evac_moving.specs.Stages.{EvacuationStage, IsEvacuating};
@@ -40,14 +41,27 @@ impl Registers {
         }
     }
 
-    /// Puts a place into one of them.
-    fn set(self, space: &mut Space, register: usize, place: Place)
-        requires { register < length (held_places self space.old) }
+    /// The first of them from an index on that is in use; those that are passed over hold nothing.
+    fn next_in_use(self, space: &Space, from: usize) -> usize
+        requires { from ≤ length (held_places self space.now) }
+        ensures range { (from ≤ result) × (result ≤ length (held_places self space.now)) }
+        ensures passed { AreNil (held_places self space.now) from result }
+    {
+        match self {
+            Registers::Now => space.registers.next_in_use(from),
+            Registers::AtLastPause => space.deferred.next_in_use(from),
+        }
+    }
+
+    /// Puts a place into one of them that holds something.
+    fn replace(self, space: &mut Space, register: usize, place: Place)
+        requires register { register < length (held_places self space.old) }
+        requires holds { held_at (held_places self space.old) register ≢ nil }
         ensures { space.new ≡ with_places self space.old (slice_set (held_places self space.old) register place) }
     {
         match self {
-            Registers::Now => space.registers.set(register, place),
-            Registers::AtLastPause => space.deferred.set(register, place),
+            Registers::Now => space.registers.replace(register, place),
+            Registers::AtLastPause => space.deferred.replace(register, place),
         }
     }
 }
@@ -61,7 +75,7 @@ fn fix_register(space: &mut Space, registers: Registers, register: usize)
     let held = registers.at(space, register);
     let now = present_place(space, held);
     if now.0 != held.0 {
-        registers.set(space, register, now);
+        registers.replace(space, register, now);
     }
 }
 
@@ -72,7 +86,9 @@ pub(crate) fn fix_registers(space: &mut Space, registers: Registers)
         → IsEvacuating space.new m st × ArePlacesOf st.now (held_places registers space.new) (held_names registers m) }
     ensures rest { space.new ≡ with_places registers space.old (held_places registers space.new) }
 {
-    for register in 0..registers.count(space) {
+    let mut register = registers.next_in_use(space, 0);
+    while register < registers.count(space) {
         fix_register(space, registers, register);
+        register = registers.next_in_use(space, register + 1);
     }
 }

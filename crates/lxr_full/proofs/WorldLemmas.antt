@@ -1,6 +1,7 @@
 -- Each step keeps the shape of each object, so the world's stays what it was at the opening, or when names were last renewed.
 use Rattle.std.proofs.Common.{◌≡◌, ℕ, ◌+◌, ◌-◌, ◌*◌, ◌≤◌, refl, sym, ap, subst, ◌∙◌, inl, inr, arith, List, [], ◌∷◌, length}
 use Rattle.lxr_layout.specs.declared.Shape.{Shape}
+use Rattle.lxr_layout.specs.declared.TheConstants.{REGISTERS}
 use Rattle.lxr_graph.specs.declared.Op.{Op}
 use Rattle.lxr_graph.specs.State.{State, opening, world, world_name}
 use Rattle.lxr_graph.specs.Step.{step}
@@ -13,10 +14,10 @@ use Rattle.lxr_model_counting.proofs.StoreLemmas.{same_shape, shape_through, ste
 use Rattle.lxr_model_counting.proofs.FollowingLemmas.{opening_follows}
 use Rattle.lxr_full.specs.Room.{HasWorld, WorldKeepsShape}
 
--- the world has its shape, and each thread its sixteen registers
+-- the world has its shape, and each thread its 256 registers
 pub record Standing (threads : ℕ) (s : State) : Type 0 where
   pub world : HasWorld s.graph
-  pub registers : length s.registers ≡ 16 * threads
+  pub registers : length s.registers ≡ REGISTERS * threads
 
 after_step : (threads : ℕ) (s : State) (t : ℕ) (o : Op) → length s.graph ≡ threads + 1 → 1 ≤ t → t ≤ threads → Standing threads s → Standing threads (step s t o).0
 after_step threads s t o rows some within stands =
@@ -32,7 +33,7 @@ after_step threads s t o rows some within stands =
 pub stands_at : (terms : Terms) (h : List Item) → IsLegalSoFar terms h → Standing terms.threads (moment terms.threads h).state
 stands_at terms [] legal =
     let rows : length (opening terms.threads).graph ≡ terms.threads + 1 = (good_history terms [] legal).rows in
-    let many : length (opening terms.threads).registers ≡ 16 * (length (opening terms.threads).graph - 1) = (opening_follows terms.threads).registers in
+    let many : length (opening terms.threads).registers ≡ REGISTERS * (length (opening terms.threads).graph - 1) = (opening_follows terms.threads).registers in
     record { world = (world, refl, same_shape world); registers = omega (arith, rows, many) }
 stands_at terms (Call t o r ∷ h) legal =
     let m = moment terms.threads h in

@@ -19,8 +19,8 @@ use Rattle.lxr_invariant.specs.AbstractState.{AbstractState}
 use Rattle.lxr_invariant.specs.Lines.{NoneChosen}
 use Rattle.lxr_invariant.specs.Quiescent.{IsAtSafepoint, IsQuiescent}
 
--- Where no room is left between epochs, each block that isn't Chosen has an object. So objects are at least as many as these blocks, and at most
--- an eighth of all blocks is Chosen.
+-- Where no room is left between epochs, each block that isn't Chosen has an object. So objects are at least as many as these blocks, and at most as
+-- many blocks are Chosen as `evacuate` of the limits says: an eighth of all, or fewer.
 abbrev pub RoomlessBlocksAreTaken : Type 0
 RoomlessBlocksAreTaken = (s : Space) (g : AbstractState) (shape : Shape) → IsQuiescent s g → FitsShape shape → IsFull s shape
     → s.limits.blocks - s.limits.evacuate ≤ length g.moment.unreclaimed + length g.moment.made
@@ -34,7 +34,7 @@ abbrev pub WorldKeepsShape : Type 0
 WorldKeepsShape = (terms : Terms) (h : List Item) → IsLegalSoFar terms h → HasWorld (moment terms.threads h).state.graph
 
 -- Where no room is left between epochs, the objects that are unreclaimed or made since the last pause, but for the world, can
--- leave no run outside the blocks that may be Chosen, at most an eighth of all.
+-- leave no run outside the blocks that may be Chosen, as many as `evacuate` of the limits says: an eighth of all, or fewer.
 abbrev pub WaitingMayCollect : Type 0
 WaitingMayCollect = (s : Space) (g : AbstractState) (shape : Shape) → IsQuiescent s g → HasWorld g.moment.state.graph → FitsShape shape → IsFull s shape
     → LeaveNoRun g.moment.state.graph (without (union g.moment.made g.moment.unreclaimed) (world_name ∷ [])) (s.limits.blocks - s.limits.evacuate) (line_count shape)

@@ -9,7 +9,8 @@
 //! nothing: the contract of each is a law.
 ghost use Rattle.lxr_full.specs.Room.{CollectedFullLeavesNoRun, LogIsWritten, RoomlessBlocksAreTaken, WaitingMayCollect, WorldKeepsShape};
 
-/// Where no room is left between epochs, there are at least as many objects as blocks that aren't Chosen, and these are all but an eighth.
+/// Where no room is left between epochs, there are at least as many objects as blocks that aren't Chosen, and at most as many
+/// blocks are Chosen as `Limits::evacuate` says, which is an eighth of all or fewer.
 pub fn roomless_blocks_are_taken()
     ensures { RoomlessBlocksAreTaken }
 {}

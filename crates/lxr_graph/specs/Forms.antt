@@ -1,5 +1,6 @@
 -- Whether an operation is well formed, as a test.
-use Rattle.std.specs.Prelude.{Bool, true, ◌&&◌, nat_le, nat_lt}
+use Rattle.std.specs.Prelude.{ℕ, Bool, true, ◌&&◌, nat_le, nat_lt}
+use Rattle.lxr_layout.specs.declared.TheConstants.{REGISTERS}
 use Rattle.lxr_layout.specs.declared.Shape.{Shape}
 use Rattle.lxr_graph.specs.declared.Op.{Op}
 use Rattle.lxr_graph.specs.declared.Op.TheVariants as op
@@ -8,18 +9,22 @@ use Rattle.lxr_graph.specs.declared.Op.TheVariants as op
 abbrev pub fits_shape : Shape → Bool
 fits_shape shape = nat_le shape.refs 1023 && nat_le shape.values 1023
 
--- the registers of an operation are below 16, and its shape fits
+-- an operation names the first so many registers alone, and its shape fits
+abbrev pub is_formed_for : ℕ → Op → Bool
+is_formed_for n (op.New dest shape) = nat_lt dest n && fits_shape shape
+is_formed_for n (op.Load dest base index) = nat_lt dest n && nat_lt base n
+is_formed_for n (op.Store base index source) = nat_lt base n && nat_lt source n
+is_formed_for n (op.Put base index value) = nat_lt base n
+is_formed_for n (op.Get base index) = nat_lt base n
+is_formed_for n (op.Swap dest base index source) = nat_lt dest n && (nat_lt base n && nat_lt source n)
+is_formed_for n (op.Add base index value) = nat_lt base n
+is_formed_for n (op.Move dest source) = nat_lt dest n && nat_lt source n
+is_formed_for n (op.Nil dest) = nat_lt dest n
+is_formed_for n (op.Same left right) = nat_lt left n && nat_lt right n
+is_formed_for n op.Pause = true
+is_formed_for n op.Collect = true
+is_formed_for n op.End = true
+
+-- an operation names registers that there are, and its shape fits
 abbrev pub is_well_formed : Op → Bool
-is_well_formed (op.New dest shape) = nat_lt dest 16 && fits_shape shape
-is_well_formed (op.Load dest base index) = nat_lt dest 16 && nat_lt base 16
-is_well_formed (op.Store base index source) = nat_lt base 16 && nat_lt source 16
-is_well_formed (op.Put base index value) = nat_lt base 16
-is_well_formed (op.Get base index) = nat_lt base 16
-is_well_formed (op.Swap dest base index source) = nat_lt dest 16 && (nat_lt base 16 && nat_lt source 16)
-is_well_formed (op.Add base index value) = nat_lt base 16
-is_well_formed (op.Move dest source) = nat_lt dest 16 && nat_lt source 16
-is_well_formed (op.Nil dest) = nat_lt dest 16
-is_well_formed (op.Same left right) = nat_lt left 16 && nat_lt right 16
-is_well_formed op.Pause = true
-is_well_formed op.Collect = true
-is_well_formed op.End = true
+is_well_formed o = is_formed_for REGISTERS o

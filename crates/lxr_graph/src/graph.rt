@@ -7,11 +7,11 @@ ghost use Rattle.lxr_graph.specs.Step.{IsWellFormed, add_to, cleared, fresh, get
 
 use crate::rows::{Body, Row, body_of, reference_of, set_reference, set_value, value_of};
 use crate::{Op, Reply};
-use lxr_layout::{Name, Shape, WORLD_REFS};
+use lxr_layout::{Name, REGISTERS, Shape, WORLD_REFS};
 use std::alloc::{AllocError, Global};
 use std::marker::Model;
 
-/// The graph, which only grows, and sixteen registers for each thread.
+/// The graph, which only grows, and 256 registers for each thread.
 #[derive(Drop)]
 pub struct Graph {
     rows: Vec<Row>,
@@ -20,13 +20,14 @@ pub struct Graph {
 
 impl Model for Graph {
     ghost use Rattle.std.specs.Prelude.{◌≡◌, ◌+◌, ◌*◌, length};
+    ghost use Rattle.lxr_layout.specs.declared.TheConstants.{REGISTERS};
     ghost use Rattle.lxr_graph.specs.State.{State};
 
     ghost Value = { State };
 
     ghost view = { λ a. record { graph = a.rows.items; registers = a.registers.items } };
 
-    ghost invariant = { λ a. length a.registers.items + 16 ≡ 16 * length a.rows.items };
+    ghost invariant = { λ a. length a.registers.items + REGISTERS ≡ REGISTERS * length a.rows.items };
 }
 
 /// Whether both hold nothing, or both hold one name.
@@ -45,7 +46,7 @@ fn same_names(left: Option<Name>, right: Option<Name>) -> bool
 fn push_opening_row(registers: &mut Vec<Option<Name>>) -> Result<(), AllocError>
     ensures { OnOk result (registers.new.items ≡ registers.old.items ++ opening_row) }
 {
-    let mut row = [None; 16];
+    let mut row = [None; REGISTERS];
     row[0] = Some(Name {
         thread: 0,
         serial: 0,
@@ -82,10 +83,9 @@ impl Graph {
     /// What a register of a thread holds; none is nil.
     pub fn register(&self, thread: u8, register: u8) -> Option<Name>
         requires thread { (0 < thread) × (thread < length self.now.graph) }
-        requires register { register < 16 }
         ensures { result ≡ register_at self.now thread register }
     {
-        self.registers[16 * usize::from(thread - 1) + usize::from(register)]
+        self.registers[REGISTERS * usize::from(thread - 1) + usize::from(register)]
     }
 
     /// What the registers of all threads hold, those of thread 1 first.
@@ -127,15 +127,13 @@ impl Graph {
 
     fn set_register(&mut self, thread: u8, register: u8, name: Option<Name>)
         requires thread { (0 < thread) × (thread < length self.old.graph) }
-        requires register { register < 16 }
         ensures { self.new ≡ with_register self.old thread register name }
     {
-        self.registers[16 * usize::from(thread - 1) + usize::from(register)] = name;
+        self.registers[REGISTERS * usize::from(thread - 1) + usize::from(register)] = name;
     }
 
     fn load(&mut self, thread: u8, dest: u8, base: u8, index: u16) -> Reply
         requires thread { (0 < thread) × (thread < length self.old.graph) }
-        requires registers { (dest < 16) × (base < 16) }
         ensures { load_from self.old thread dest index (register_at self.old thread base) ≡ (self.new, result) }
     {
         match self.register(thread, base) {
@@ -152,7 +150,6 @@ impl Graph {
 
     fn store(&mut self, thread: u8, base: u8, index: u16, source: u8) -> Reply
         requires thread { (0 < thread) × (thread < length self.old.graph) }
-        requires registers { (base < 16) × (source < 16) }
         ensures { store_to self.old index (register_at self.old thread source) (register_at self.old thread base) ≡ (self.new, result) }
     {
         let reference = self.register(thread, source);
@@ -170,7 +167,6 @@ impl Graph {
 
     fn swap(&mut self, thread: u8, dest: u8, base: u8, index: u16, source: u8) -> Reply
         requires thread { (0 < thread) × (thread < length self.old.graph) }
-        requires registers { (dest < 16) × (base < 16) × (source < 16) }
         ensures { swap_in self.old thread dest index (register_at self.old thread source) (register_at self.old thread base) ≡ (self.new, result) }
     {
         let given = self.register(thread, source);
@@ -189,7 +185,6 @@ impl Graph {
 
     fn put(&mut self, thread: u8, base: u8, index: u16, value: u64) -> Reply
         requires thread { (0 < thread) × (thread < length self.old.graph) }
-        requires registers { base < 16 }
         ensures { put_to self.old index value (register_at self.old thread base) ≡ (self.new, result) }
     {
         match self.register(thread, base) {
@@ -206,7 +201,6 @@ impl Graph {
 
     fn add(&mut self, thread: u8, base: u8, index: u16, value: u64) -> Reply
         requires thread { (0 < thread) × (thread < length self.old.graph) }
-        requires registers { base < 16 }
         ensures { add_to self.old index value (register_at self.old thread base) ≡ (self.new, result) }
     {
         match self.register(thread, base) {
@@ -223,7 +217,6 @@ impl Graph {
 
     fn get(&self, thread: u8, base: u8, index: u16) -> Reply
         requires thread { (0 < thread) × (thread < length self.now.graph) }
-        requires registers { base < 16 }
         ensures { get_from self.now index (register_at self.now thread base) ≡ (self.now, result) }
     {
         match self.register(thread, base) {
@@ -244,7 +237,6 @@ impl Graph {
     ) -> Result<Reply, AllocError>
         requires thread { (0 < thread) × (thread < length self.old.graph) }
         requires room { length (row_of self.old.graph thread) < 2 ^ 32 - 1 }
-        requires registers { dest < 16 }
         ensures ok { IfOk result (λ reply. make self.old thread dest (fresh shape) (next_name self.old.graph thread) ≡ (self.new, reply)) }
         ensures err { OnErr result (self.new ≡ self.old) }
     {
@@ -261,15 +253,14 @@ impl Graph {
         requires { (0 < thread) × (thread < length self.old.graph) }
         ensures { self.new ≡ record self.old { registers = cleared self.old.registers thread } }
     {
-        let from = 16 * usize::from(thread - 1);
-        for register in 0..16 {
+        let from = REGISTERS * usize::from(thread - 1);
+        for register in 0..REGISTERS {
             self.registers[from + register] = None;
         }
     }
 
     fn copy(&mut self, thread: u8, dest: u8, source: u8) -> Reply
         requires thread { (0 < thread) × (thread < length self.old.graph) }
-        requires registers { (dest < 16) × (source < 16) }
         ensures { (self.new ≡ with_register self.old thread dest (register_at self.old thread source)) × (result ≡ reply.Moved) }
     {
         let held = self.register(thread, source);
@@ -279,7 +270,6 @@ impl Graph {
 
     fn holds_same(&self, thread: u8, left: u8, right: u8) -> bool
         requires thread { (0 < thread) × (thread < length self.now.graph) }
-        requires registers { (left < 16) × (right < 16) }
         ensures { result ≡ same_held (register_at self.now thread left) (register_at self.now thread right) }
     {
         same_names(self.register(thread, left), self.register(thread, right))

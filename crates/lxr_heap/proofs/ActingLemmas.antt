@@ -6,7 +6,7 @@ use Rattle.lxr_layout.specs.declared.Name.{Name}
 use Rattle.lxr_graph.specs.Names.{same_name}
 use Rattle.lxr_graph.proofs.NameSets.{same_itself, same_names}
 use Rattle.lxr_graph.specs.State.{State, register_at}
-use Rattle.lxr_graph.specs.Step.{IsWellFormed}
+use Rattle.lxr_graph.specs.Step.{IsFormedFor}
 use Rattle.lxr_graph.specs.declared.Op.{Op}
 use Rattle.lxr_graph.specs.declared.Op.TheVariants as op
 use Rattle.lxr_graph.specs.declared.Reply.{Reply}
@@ -49,7 +49,7 @@ place_room : (x : Heap) (o : Op) → FindsNoPlace x (large_op.Small o) → Finds
 place_room x (op.New dest shape) full = full
 place_room x o full = absurd full
 
-pub replied_small : (x : Heap) (h : List LargeItem) (is : IsHeapOf x h) (space : Space) (o : Op) (r : Reply) (made : ℕ) → IsWellFormed o → IsOfFirstVersion o → made ≡ made_with x.made r
+pub replied_small : (x : Heap) (h : List LargeItem) (is : IsHeapOf x h) (space : Space) (o : Op) (r : Reply) (made : ℕ) → IsFormedFor x.space.limits.registers o → IsOfFirstVersion o → made ≡ made_with x.made r
     → ((at : Name → ℕ) → StandAt x.space h at → IsDone x.space space (abstract_after h at) 1 o r) → ¬ FindsNoRoom x.space o × ¬ FindsLogFull x.space (large_moment h) 1 o
     → IsReplied x (behind x space x.bodies made) h (large_op.Small o) (large_reply.Small r)
 replied_small x h is space o r made formed first count done finds =
@@ -71,7 +71,7 @@ replied_small x h is space o r made formed first count done finds =
 abbrev pub refusal : Bool → LargeReply → Acted
 refusal fresh full = cond fresh (acted.Replied full) acted.Room
 
-pub no_place_small : (x : Heap) (h : List LargeItem) → IsHeapOf x h → (o : Op) → IsWellFormed o → FindsNoRoom x.space o → Acts x x h (large_op.Small o) (refusal x.fresh (large_reply.Small reply.Full))
+pub no_place_small : (x : Heap) (h : List LargeItem) → IsHeapOf x h → (o : Op) → IsFormedFor x.space.limits.registers o → FindsNoRoom x.space o → Acts x x h (large_op.Small o) (refusal x.fresh (large_reply.Small reply.Full))
 no_place_small x h is (op.New dest shape) formed full = elim x.fresh as (λ c. x.fresh ≡ c → Acts x x h (large_op.Small (op.New dest shape)) (refusal c (large_reply.Small reply.Full))) [
   | true ↦ λ fresh.
       let may = lines_full x h is shape fresh full in
@@ -108,7 +108,7 @@ next_has_none x h is =
 
 -- ---- a new large object
 
-pub no_place_big : (x : Heap) (h : List LargeItem) → IsHeapOf x h → (dest blocks : ℕ) → dest < 16 → (1 ≤ blocks) × (blocks ≤ MOST_BODY_BLOCKS) → FindsNoPlace x (large_op.Big dest blocks)
+pub no_place_big : (x : Heap) (h : List LargeItem) → IsHeapOf x h → (dest blocks : ℕ) → dest < x.space.limits.registers → (1 ≤ blocks) × (blocks ≤ MOST_BODY_BLOCKS) → FindsNoPlace x (large_op.Big dest blocks)
     → Acts x x h (large_op.Big dest blocks) (refusal x.fresh large_reply.Full)
 no_place_big x h is dest blocks small range none = elim x.fresh as (λ c. x.fresh ≡ c → Acts x x h (large_op.Big dest blocks) (refusal c large_reply.Full)) [
   | true ↦ λ fresh.
@@ -131,7 +131,7 @@ no_place_big x h is dest blocks small range none = elim x.fresh as (λ c. x.fres
     may fresh (inl full) = let a = lines_full x h is handle fresh full in (a.0, a.1, inl a.2)
     may fresh (inr gone) = let a = blocks_full x h blocks is range.0 fresh gone in (a.0, a.1, inr a.2)
 
-pub replied_big : (x : Heap) (h : List LargeItem) (is : IsHeapOf x h) (space : Space) (held' : Held) (n : Name) (dest blocks first : ℕ) → dest < 16 → (1 ≤ blocks) × (blocks ≤ MOST_BODY_BLOCKS)
+pub replied_big : (x : Heap) (h : List LargeItem) (is : IsHeapOf x h) (space : Space) (held' : Held) (n : Name) (dest blocks first : ℕ) → dest < x.space.limits.registers → (1 ≤ blocks) × (blocks ≤ MOST_BODY_BLOCKS)
     → IsFreeRun x.bodies first blocks → held' ≡ record x.bodies { bodies = with_placed x.bodies.bodies (fresh n first blocks) } → ¬ FindsNoPlace x (large_op.Big dest blocks) → n ≡ record { thread = 1; serial = x.made + 1 }
     → ((at : Name → ℕ) → StandAt x.space h at → IsDone x.space space (abstract_after h at) 1 (op.New dest handle) (reply.New n)) → IsReplied x (behind x space held' (x.made + 1)) h (large_op.Big dest blocks) (large_reply.Big n)
 replied_big x h is space held' n dest blocks first small range run placed some named done =
@@ -172,7 +172,7 @@ put_makes made s i value (Some n) = by (word_of (large_of s.large n) i)
     by None = refl
     by (Some w) = refl
 
-pub replied_get : (x : Heap) (h : List LargeItem) (is : IsHeapOf x h) (base i : ℕ) (v : Option Name) (r : LargeReply) → base < 16 → v ≡ register_at (large_moment h).state 1 base → get_from (large_state h) i v ≡ r
+pub replied_get : (x : Heap) (h : List LargeItem) (is : IsHeapOf x h) (base i : ℕ) (v : Option Name) (r : LargeReply) → base < x.space.limits.registers → v ≡ register_at (large_moment h).state 1 base → get_from (large_state h) i v ≡ r
     → IsReplied x (behind x x.space x.bodies x.made) h (large_op.BigGet base i) r
 replied_get x h is base i v r small e told = record {
   holds = done_get x h is base i r small (ap (get_from (large_state h) i) (small_register x h is base v e) ∙ told);
@@ -190,7 +190,7 @@ replied_get x h is base i v r small e told = record {
 pub word_there : (x : Heap) (h : List LargeItem) (is : IsHeapOf x h) (base i : ℕ) (n : Name) → Some n ≡ register_at (large_moment h).state 1 base → word_at x.bodies.bodies n i ≡ word_of (large_of (large_state h).large n) i
 word_there x h is base i n e = held_word x h is n i (held_is_kept x h is base n (sym e))
 
-pub replied_no_put : (x : Heap) (h : List LargeItem) (is : IsHeapOf x h) (base i value : ℕ) (v : Option Name) (r : LargeReply) → base < 16 → v ≡ register_at (large_moment h).state 1 base
+pub replied_no_put : (x : Heap) (h : List LargeItem) (is : IsHeapOf x h) (base i value : ℕ) (v : Option Name) (r : LargeReply) → base < x.space.limits.registers → v ≡ register_at (large_moment h).state 1 base
     → put_to (large_state h) i value v ≡ (large_state h, r) → IsReplied x (behind x x.space x.bodies x.made) h (large_op.BigPut base i value) r
 replied_no_put x h is base i value v r small e told = record {
   holds = done_no_put x h is base i value r small (ap (put_to (large_state h) i value) (small_register x h is base v e) ∙ told);
@@ -205,7 +205,7 @@ replied_no_put x h is base i value v r small e told = record {
 }
 
 -- a `bput` by whether the body has the word
-pub replied_put : (x : Heap) (h : List LargeItem) (is : IsHeapOf x h) (base i value : ℕ) (n : Name) (found : Bool) (held' : Held) → base < 16 → Some n ≡ register_at (large_moment h).state 1 base
+pub replied_put : (x : Heap) (h : List LargeItem) (is : IsHeapOf x h) (base i value : ℕ) (n : Name) (found : Bool) (held' : Held) → base < x.space.limits.registers → Some n ≡ register_at (large_moment h).state 1 base
     → found ≡ is_some (word_at x.bodies.bodies n i) → held' ≡ (if found then (record x.bodies { bodies = with_words x.bodies.bodies n (λ words. slice_set words i value) }) else x.bodies)
     → IsReplied x (behind x x.space held' x.made) h (large_op.BigPut base i value) (if found then large_reply.Put else large_reply.Range)
 replied_put x h is base i value n found held' small e told changed =

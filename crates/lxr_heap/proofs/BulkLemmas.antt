@@ -164,16 +164,16 @@ word_found x h is n base i count there has =
     let e : Some n ≡ register_at (large_moment h).state 1 base = sym (ap (λ (s : State). register_at s 1 base) is.state ∙ there) in
     (get_or has.body.words i 0, sym (word_there x h is base i n e) ∙ ap (λ found. word_in found i) has.found ∙ slice_get-get_or has.body.words i 0 (omega (arith, long)))
 
-puts : (n : Name) (base : ℕ) → base < 16 → (words : List ℕ) (i : ℕ) (x : Heap) (h : List LargeItem) → IsHeapOf x h → base_held h base ≡ Some n → HasWords x.bodies.bodies n i (length words)
+puts : (n : Name) (base : ℕ) (words : List ℕ) (i : ℕ) (x : Heap) (h : List LargeItem) → base < x.space.limits.registers → IsHeapOf x h → base_held h base ≡ Some n → HasWords x.bodies.bodies n i (length words)
     → IsHeapOf (behind_words x n i words) (with_puts h base i words)
-puts n base small [] i x h is there has = subst (λ (bs : List Body). IsHeapOf (record x { bodies = record x.bodies { bodies = bs } }) h) (sym (with_none n i x.bodies.bodies)) is
-puts n base small (w ∷ ws) i x h is there has =
+puts n base [] i x h small is there has = subst (λ (bs : List Body). IsHeapOf (record x { bodies = record x.bodies { bodies = bs } }) h) (sym (with_none n i x.bodies.bodies)) is
+puts n base (w ∷ ws) i x h small is there has =
     let word = word_found x h is n base i (length ws) there has in
     let held : Held = record x.bodies { bodies = with_words x.bodies.bodies n (λ xs. slice_set xs i w) } in
     let first : IsHeapOf (behind x x.space held x.made) (Called (large_op.BigPut base i w) large_reply.Put ∷ h) = done_put x h is base i w word.0 n small there word.1 in
     let kept : base_held (Called (large_op.BigPut base i w) large_reply.Put ∷ h) base ≡ Some n =
     ap (λ (s : State). register_at s 1 base) (put_small (large_state h) i w (base_held h base)) ∙ there in
-    let rest = puts n base small ws (i + 1) (behind x x.space held x.made) (Called (large_op.BigPut base i w) large_reply.Put ∷ h) first kept (has_first x.bodies.bodies n i w (length ws) has) in
+    let rest = puts n base ws (i + 1) (behind x x.space held x.made) (Called (large_op.BigPut base i w) large_reply.Put ∷ h) small first kept (has_first x.bodies.bodies n i w (length ws) has) in
     subst (λ (bs : List Body). IsHeapOf (record x { bodies = record x.bodies { bodies = bs }; fresh = fresh_behind x.fresh (w ∷ ws) }) (with_puts h base i (w ∷ ws)))
     (with_first n i w ws x.bodies.bodies (have_words x.bodies.blocks i (suc (length ws)) x.bodies.bodies n has.body is.apart has.found has.within))
     (subst (λ c. IsHeapOf (record x { bodies = record x.bodies { bodies = with_words held.bodies n (overwritten (i + 1) ws) }; fresh = c }) (with_puts h base i (w ∷ ws))) (still_stale ws ∙ sym (stale_behind x.fresh w ws)) rest)
@@ -243,11 +243,11 @@ writes_past x h is base i words n there none = record {
   terms = refl;
 }
 
-pub writes_done : (x : Heap) (h : List LargeItem) (is : IsHeapOf x h) (base i : ℕ) (words : List ℕ) (n : Name) → base < 16 → base_held h base ≡ Some n → is_some (range_at x.bodies.bodies n i (length words)) ≡ true
+pub writes_done : (x : Heap) (h : List LargeItem) (is : IsHeapOf x h) (base i : ℕ) (words : List ℕ) (n : Name) → base < x.space.limits.registers → base_held h base ≡ Some n → is_some (range_at x.bodies.bodies n i (length words)) ≡ true
     → WritesWords x (behind_words x n i words) h base i words body_reply.Done
 writes_done x h is base i words n small there some = record {
   reply = ap by_found (sym some) ∙ reply_held x h is base i (length words) n there;
-  holds = puts n base small words i x h is there (has_range x.bodies.blocks x.bodies.bodies n i (length words) is.apart some);
+  holds = puts n base words i x h small is there (has_range x.bodies.blocks x.bodies.bodies n i (length words) is.apart some);
   unchanged = λ other. absurd (other refl);
   made = refl;
   space = refl;

@@ -3,12 +3,13 @@ use Rattle.std.proofs.Common.{◌≡◌, ◌≢◌, ℕ, ◌+◌, ◌<◌, ◌�
 use Rattle.std.specs.Prelude.{◌↔◌, ◌||◌, IsTrue, if◌then◌else◌, slice_set}
 use Rattle.std.specs.List.{AllByRecursion}
 use Rattle.std.proofs.lemmas.List.Folds.{list_any-append}
+use Rattle.lxr_layout.specs.declared.TheConstants.{REGISTERS}
 use Rattle.lxr_layout.specs.declared.Name.{Name}
 use Rattle.lxr_layout.specs.declared.Shape.{Shape}
 use Rattle.lxr_layout.specs.Objects.{line_count}
 use Rattle.lxr_graph.specs.Names.{IsSetOf, has, same_name}
 use Rattle.lxr_graph.specs.State.{State, next_name, register_at, world_name}
-use Rattle.lxr_graph.specs.Step.{IsWellFormed}
+use Rattle.lxr_graph.specs.Step.{IsFormedFor}
 use Rattle.lxr_graph.specs.declared.Op.{Op}
 use Rattle.lxr_graph.specs.declared.Op.TheVariants as op
 use Rattle.lxr_graph.specs.declared.Reply.{Reply}
@@ -32,7 +33,7 @@ use Rattle.lxr_large_model.specs.Full.{AreReachable, LeaveNoLines, MayBeFull}
 use Rattle.lxr_large_model.specs.History.{LargeItem, Called, large_moment, large_state}
 use Rattle.lxr_large_model.specs.Pauses.{IsLegalLarge}
 use Rattle.lxr_large_model.specs.State.{Large, LargeState, body_of as large_of, fresh_body, handle, with_body}
-use Rattle.lxr_large_model.specs.Step.{IsLargeOp, large_step, put_at, put_to, word_in as word_of}
+use Rattle.lxr_large_model.specs.Step.{IsLargeOpFor, large_step, put_at, put_to, word_in as word_of}
 use Rattle.lxr_large_bodies.specs.Bodies.{Held, IsFreeRun, fresh, rank_of, with_placed, with_words, word_at}
 use Rattle.lxr_large_bodies.specs.Kept.{is_kept, kept_of, to_keep}
 use Rattle.lxr_heap.specs.declared.heap.Heap.{Heap}
@@ -42,7 +43,7 @@ use Rattle.lxr_heap.proofs.BodyLemmas.{held_changed, held_more, held_names, word
 use Rattle.lxr_heap.proofs.CountLemmas.{counts_called}
 use Rattle.lxr_heap.proofs.HeapLemmas.{StandsFor, behind, is_step_of, keeps_beside, lower_and_other, one_thread, other_names, same_terms, stands, stepped}
 use Rattle.lxr_heap.proofs.SameLemmas.{same_heap}
-use Rattle.lxr_heap.proofs.MomentLemmas.{none_chosen, quiescent, sixteen, two_rows}
+use Rattle.lxr_heap.proofs.MomentLemmas.{none_chosen, quiescent, one_row, two_rows}
 
 -- `false` is no test that holds
 pub stale_now : {P : Type 0} → (P → ⊥) → IsTrue false ↔ P
@@ -58,12 +59,12 @@ module _ (x : Heap) (h : List LargeItem) (is : IsHeapOf x h) where
   rows : 1 < length m.state.graph
   rows = let two = two_rows x.space g is.rests (one_thread x h is) in omega (arith, two)
 
-  many : length m.state.registers ≡ 16
-  many = sixteen x.space g is.rests (one_thread x h is)
+  many : length m.state.registers ≡ REGISTERS
+  many = one_row x.space g is.rests (one_thread x h is)
 
   -- ---- an operation on the object graph
 
-  pub done_small : (space : Space) (o : Op) (r : Reply) → IsWellFormed o → IsOfFirstVersion o → IsDone x.space space g 1 o r
+  pub done_small : (space : Space) (o : Op) (r : Reply) → IsFormedFor x.space.limits.registers o → IsOfFirstVersion o → IsDone x.space space g 1 o r
       → IsHeapOf (behind x space x.bodies (made_with x.made r)) (Called (large_op.Small o) (large_reply.Small r) ∷ h)
   done_small space o r formed first done =
       let keeps = keeps_beside x.space space done.keeps in
@@ -76,7 +77,7 @@ module _ (x : Heap) (h : List LargeItem) (is : IsHeapOf x h) where
         at = done.at;
         rests = done.rests;
         untraced = is.untraced;
-        limits = keeps.limits ∙ is.limits ∙ ap (λ l. limits_of l.blocks) (sym keeps.limits);
+        limits = keeps.limits ∙ is.limits ∙ ap (λ l. limits_of l.blocks l.registers) (sym keeps.limits);
         tally = keeps.tally ∙ is.tally ∙ ap (λ p. record no_tally { pauses = p }) (sym keeps.pauses);
         state = after.state;
         world = after.world;
@@ -96,7 +97,7 @@ module _ (x : Heap) (h : List LargeItem) (is : IsHeapOf x h) where
   names_append made [] l all own = (own, tt)
   names_append made (k ∷ ks) l all own = (all.0, names_append made ks l all.1 own)
 
-  pub done_large : (space : Space) (n : Name) (dest blocks first : ℕ) → dest < 16 → (1 ≤ blocks) × (blocks ≤ MOST_BODY_BLOCKS) → IsFreeRun x.bodies first blocks → n ≡ record { thread = 1; serial = x.made + 1 }
+  pub done_large : (space : Space) (n : Name) (dest blocks first : ℕ) → dest < x.space.limits.registers → (1 ≤ blocks) × (blocks ≤ MOST_BODY_BLOCKS) → IsFreeRun x.bodies first blocks → n ≡ record { thread = 1; serial = x.made + 1 }
       → IsDone x.space space g 1 (op.New dest handle) (reply.New n)
       → IsHeapOf (behind x space (record x.bodies { bodies = with_placed x.bodies.bodies (fresh n first blocks) }) (x.made + 1)) (Called (large_op.Big dest blocks) (large_reply.Big n) ∷ h)
   done_large space n dest blocks first small range run named done =
@@ -114,7 +115,7 @@ module _ (x : Heap) (h : List LargeItem) (is : IsHeapOf x h) where
         at = done.at;
         rests = done.rests;
         untraced = is.untraced;
-        limits = keeps.limits ∙ is.limits ∙ ap (λ l. limits_of l.blocks) (sym keeps.limits);
+        limits = keeps.limits ∙ is.limits ∙ ap (λ l. limits_of l.blocks l.registers) (sym keeps.limits);
         tally = keeps.tally ∙ is.tally ∙ ap (λ p. record no_tally { pauses = p }) (sym keeps.pauses);
         state = now.state;
         world = now.world;
@@ -149,7 +150,7 @@ module _ (x : Heap) (h : List LargeItem) (is : IsHeapOf x h) where
   abbrev pub read_only : Heap
   read_only = behind x x.space x.bodies x.made
 
-  pub done_get : (base i : ℕ) (r : LargeReply) → base < 16 → (large_step (large_state h) (large_op.BigGet base i)).1 ≡ r → IsHeapOf read_only (Called (large_op.BigGet base i) r ∷ h)
+  pub done_get : (base i : ℕ) (r : LargeReply) → base < x.space.limits.registers → (large_step (large_state h) (large_op.BigGet base i)).1 ≡ r → IsHeapOf read_only (Called (large_op.BigGet base i) r ∷ h)
   done_get base i r small told = record {
     legal = (is.legal, record { operation = small; reply = told });
     at = is.at;
@@ -170,7 +171,7 @@ module _ (x : Heap) (h : List LargeItem) (is : IsHeapOf x h) where
   }
 
   -- a `bput` that changes nothing
-  pub done_no_put : (base i v : ℕ) (r : LargeReply) → base < 16 → large_step (large_state h) (large_op.BigPut base i v) ≡ (large_state h, r) → IsHeapOf read_only (Called (large_op.BigPut base i v) r ∷ h)
+  pub done_no_put : (base i v : ℕ) (r : LargeReply) → base < x.space.limits.registers → large_step (large_state h) (large_op.BigPut base i v) ≡ (large_state h, r) → IsHeapOf read_only (Called (large_op.BigPut base i v) r ∷ h)
   done_no_put base i v r small told =
       let same = ap (λ (p : LargeState × LargeReply). p.0) told in
       let old = subst (StandsFor x.made x.bodies m) (sym same) (stands x h is) in
@@ -203,7 +204,7 @@ module _ (x : Heap) (h : List LargeItem) (is : IsHeapOf x h) where
         | false ↦ all.0
       ]
 
-  pub done_put : (base i v old : ℕ) (n : Name) → base < 16 → register_at (large_state h).small 1 base ≡ Some n → word_of (large_of (large_state h).large n) i ≡ Some old
+  pub done_put : (base i v old : ℕ) (n : Name) → base < x.space.limits.registers → register_at (large_state h).small 1 base ≡ Some n → word_of (large_of (large_state h).large n) i ≡ Some old
       → IsHeapOf (behind x x.space (record x.bodies { bodies = with_words x.bodies.bodies n (λ words. slice_set words i v) }) x.made) (Called (large_op.BigPut base i v) large_reply.Put ∷ h)
   done_put base i v old n small there word =
       let s = large_state h in
@@ -250,9 +251,9 @@ module _ (x : Heap) (h : List LargeItem) (is : IsHeapOf x h) where
         subst (λ (z : State). LeaveNoRun z.graph ns x.space.limits.blocks (line_count shape)) is.state none,
       )
 
-  pub refused_new : (dest : ℕ) (shape : Shape) → IsWellFormed (op.New dest shape) → MayBeFull (terms_of x) h (large_op.Small (op.New dest shape))
+  pub refused_new : (dest : ℕ) (shape : Shape) → IsFormedFor x.space.limits.registers (op.New dest shape) → MayBeFull (terms_of x) h (large_op.Small (op.New dest shape))
       → IsHeapOf x (Called (large_op.Small (op.New dest shape)) (large_reply.Small reply.Full) ∷ h)
   refused_new dest shape formed may = same_heap x h is x.space.report.told.items (Called (large_op.Small (op.New dest shape)) (large_reply.Small reply.Full) ∷ h) record { moment = refl; state = refl; reported = refl; fresh = (λ f. f, λ f. f) } (is.legal, record { operation = formed; reply = may })
 
-  pub refused_big : (dest blocks : ℕ) → IsLargeOp (large_op.Big dest blocks) → MayBeFull (terms_of x) h (large_op.Big dest blocks) → IsHeapOf x (Called (large_op.Big dest blocks) large_reply.Full ∷ h)
+  pub refused_big : (dest blocks : ℕ) → IsLargeOpFor x.space.limits.registers (large_op.Big dest blocks) → MayBeFull (terms_of x) h (large_op.Big dest blocks) → IsHeapOf x (Called (large_op.Big dest blocks) large_reply.Full ∷ h)
   refused_big dest blocks formed may = same_heap x h is x.space.report.told.items (Called (large_op.Big dest blocks) large_reply.Full ∷ h) record { moment = refl; state = refl; reported = refl; fresh = (λ f. f, λ f. f) } (is.legal, record { operation = formed; reply = may })

@@ -2,6 +2,7 @@
 -- carried over whole.
 use Rattle.std.proofs.Common.{◌≡◌, ℕ, ◌+◌, ◌<◌, refl, sym, ap, subst, ◌∙◌, inl, inr, arith, true, false, List, [], ◌∷◌, length}
 use Rattle.std.specs.List.{AllByRecursion}
+use Rattle.lxr_layout.specs.declared.TheConstants.{REGISTERS}
 use Rattle.lxr_layout.specs.declared.Name.{Name}
 use Rattle.lxr_graph.specs.Names.{has, same_name}
 use Rattle.lxr_graph.specs.State.{State, next_name, row_of}
@@ -116,11 +117,11 @@ names_with made (reply.New n) ls all = names_more made ls all
 names_with made _ ls all = all
 
 -- a step of the object graph
-pub stepped : (made : ℕ) (held : Held) (m : Moment) (s : LargeState) (o : Op) (r : Reply) → 1 < length m.state.graph → length m.state.registers ≡ 16 → IsOfFirstVersion o → r ≡ (step m.state 1 o).1
+pub stepped : (made : ℕ) (held : Held) (m : Moment) (s : LargeState) (o : Op) (r : Reply) → 1 < length m.state.graph → length m.state.registers ≡ REGISTERS → IsOfFirstVersion o → r ≡ (step m.state 1 o).1
     → StandsFor made held m s → StandsFor (made_with made r) held (after_call m 1 o r) (record s { small = (step s.small 1 o).0 })
 stepped made held m s o r rows many first is old =
     let there : 1 < length s.small.graph = subst (λ (z : State). 1 < length z.graph) old.state rows in
-    let all : length s.small.registers ≡ 16 = subst (λ (z : State). length z.registers ≡ 16) old.state many in
+    let all : length s.small.registers ≡ REGISTERS = subst (λ (z : State). length z.registers ≡ REGISTERS) old.state many in
     let counts = step_counts s.small o there first in
     let told : r ≡ (step s.small 1 o).1 = is ∙ ap (λ (z : State). (step z 1 o).1) old.state in
     let keeps = step_keeps s.small 1 o there (omega (arith, all)) in
@@ -169,4 +170,4 @@ pub keeps_beside : (before after : Space) → KeepsBeside before after → Keeps
 keeps_beside before after e = record { limits = ap (λ (s : Space). s.limits) e; tally = ap (λ (s : Space). s.tally) e; pauses = ap (λ (s : Space). s.pauses) e }
 
 pub same_terms : (x : Heap) (space : Space) (held : Held) (made : ℕ) → Keeps x.space space → held.blocks ≡ x.bodies.blocks → terms_of (behind x space held made) ≡ terms_of x
-same_terms x space held made keeps blocks = λ i. record { blocks = (keeps.limits i).blocks; bodies = blocks i }
+same_terms x space held made keeps blocks = λ i. record { blocks = (keeps.limits i).blocks; bodies = blocks i; registers = (keeps.limits i).registers }

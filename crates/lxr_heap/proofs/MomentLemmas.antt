@@ -2,6 +2,7 @@
 use Rattle.std.proofs.Common.{◌≡◌, ◌*◌, refl, sym, ap, subst, ◌∙◌, inl, inr, arith, List, [], length}
 use Rattle.std.specs.Prelude.{None, is_some, IsTrue}
 use Rattle.std.proofs.lemmas.List.{length-map}
+use Rattle.lxr_layout.specs.declared.TheConstants.{REGISTERS}
 use Rattle.lxr_layout.specs.declared.Name.{Name}
 use Rattle.lxr_graph.specs.Names.{has, union, without}
 use Rattle.lxr_graph.proofs.NameSets.{in_without, union_cases, union_left, union_right, without_parts}
@@ -24,8 +25,8 @@ use Rattle.lxr_invariant.specs.Quiescent.{IsAtRest, IsQuiescent}
 use Rattle.lxr_heap.specs.Holding.{IsCollected}
 
 module _ (s : Space) (g : AbstractState) (rests : IsAtRest s g) where
-  -- as many registers as sixteen a thread
-  registers_many : length g.moment.state.registers ≡ 16 * s.limits.threads
+  -- as many registers as 256 a thread
+  registers_many : length g.moment.state.registers ≡ REGISTERS * s.limits.threads
   registers_many =
       let d = rests.safepoint.holds in
       sym (length-map g.moment.state.registers (place_word g.at)) ∙ sym (ap length d.image.registers) ∙ length-map s.registers.items (λ p. p.0) ∙ d.as_many.0
@@ -37,8 +38,8 @@ module _ (s : Space) (g : AbstractState) (rests : IsAtRest s g) where
       let rows = rests.safepoint.holds.follows.registers in
       omega (arith, one, many, rows)
 
-  pub sixteen : s.limits.threads ≡ 1 → length g.moment.state.registers ≡ 16
-  sixteen one = let many = registers_many in omega (arith, one, many)
+  pub one_row : s.limits.threads ≡ 1 → length g.moment.state.registers ≡ REGISTERS
+  one_row one = let many = registers_many in omega (arith, one, many)
 
   -- where no trace runs, what holds of each moment of a legal history holds of this one
   pub good : s.limits.threads ≡ 1 → g.moment.trace ≡ None → GoodAt 1 g.moment

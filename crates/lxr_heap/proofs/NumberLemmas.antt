@@ -16,7 +16,7 @@ use Rattle.lxr_large_model.specs.State.{LargeState, body_of, handle}
 use Rattle.lxr_large_model.specs.Step.{large_after, large_step, put_at, put_to, word_in}
 use Rattle.lxr_large_model.proofs.HistoryLemmas.{same_number}
 use Rattle.lxr_heap.specs.declared.heap.Heap.{Heap}
-use Rattle.lxr_heap.specs.Acting.{MayBeCalled}
+use Rattle.lxr_heap.specs.Acting.{IsCallable}
 use Rattle.lxr_heap.specs.Holding.{IsHeapOf, abstract_after, made_with}
 use Rattle.lxr_heap.specs.Pausing.{PausesHeap}
 use Rattle.lxr_heap.proofs.HeapLemmas.{one_thread}
@@ -60,8 +60,8 @@ put_leaves s i value (Some n) = at_word (word_in (body_of s.large n) i)
     at_word (Some old) = refl
 
 -- a step makes one object at most
-step_makes : (s : LargeState) (o : LargeOp) → 1 < length s.small.graph → MayBeCalled o → length (row_of (large_step s o).0.small.graph 1) ≤ length (row_of s.small.graph 1) + 1
-step_makes s (large_op.Small o) rows may = told_row _ _ (step s.small 1 o).1 (step_counts s.small o rows may.1).length
+step_makes : (s : LargeState) (o : LargeOp) → 1 < length s.small.graph → IsCallable o → length (row_of (large_step s o).0.small.graph 1) ≤ length (row_of s.small.graph 1) + 1
+step_makes s (large_op.Small o) rows may = told_row _ _ (step s.small 1 o).1 (step_counts s.small o rows may.1.1).length
 step_makes s (large_op.Big dest blocks) rows may =
     told_row _ _ (make s.small 1 dest (fresh handle) (next_name s.small.graph 1)).1 (make_counts s.small dest handle rows).length
 step_makes s (large_op.BigPut base index value) rows may =
@@ -70,7 +70,7 @@ step_makes s (large_op.BigPut base index value) rows may =
 step_makes s (large_op.BigGet base index) rows may = omega arith
 
 -- so does a call
-call_makes : (s : LargeState) (o : LargeOp) (r : LargeReply) → 1 < length s.small.graph → MayBeCalled o → length (row_of (large_after s o r).small.graph 1) ≤ length (row_of s.small.graph 1) + 1
+call_makes : (s : LargeState) (o : LargeOp) (r : LargeReply) → 1 < length s.small.graph → IsCallable o → length (row_of (large_after s o r).small.graph 1) ≤ length (row_of s.small.graph 1) + 1
 call_makes s o r rows may = elim (left_or_stepped s o r) [
   | inl left ↦ let same = ap (λ (z : LargeState). length (row_of z.small.graph 1)) left in omega (arith, same)
   | inr stepped ↦
@@ -84,7 +84,7 @@ made_are : (x : Heap) (h : List LargeItem) → IsHeapOf x h → length (row_of (
 made_are x h is = let serial = ap (λ (n : Name). n.serial) is.next in omega (arith, serial)
 
 -- a call makes one at most
-pub called_makes : (x y : Heap) (h : List LargeItem) (o : LargeOp) (r : LargeReply) → IsHeapOf x h → IsHeapOf y (Called o r ∷ h) → MayBeCalled o → y.made ≤ x.made + 1
+pub called_makes : (x y : Heap) (h : List LargeItem) (o : LargeOp) (r : LargeReply) → IsHeapOf x h → IsHeapOf y (Called o r ∷ h) → IsCallable o → y.made ≤ x.made + 1
 called_makes x y h o r is then may =
     let two = two_rows x.space (abstract_after h is.at) is.rests (one_thread x h is) in
     let same = ap (λ (z : State). length z.graph) is.state in

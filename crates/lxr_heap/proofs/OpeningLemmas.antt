@@ -18,14 +18,14 @@ use Rattle.lxr_heap.proofs.MomentLemmas.{at_rest}
 abbrev pub opened_with : Space → ℕ → Heap
 opened_with space bodies = record { space = space; bodies = no_bodies bodies; made = 0; made_before = 0; left = 0; fresh = false }
 
-pub opened_heap : (space : Space) (blocks bodies : ℕ) → IsOpened space (limits_of blocks) → IsSpace space → IsOpeningImage space → IsOpenedHeap (opened_with space bodies) blocks bodies
-opened_heap space blocks bodies opened is image = record {
+pub opened_heap : (space : Space) (blocks bodies registers : ℕ) → IsOpened space (limits_of blocks registers) → IsSpace space → IsOpeningImage space → IsOpenedHeap (opened_with space bodies) blocks bodies registers
+opened_heap space blocks bodies registers opened is image = record {
   holds = record {
     legal = tt;
     at = opening_at;
-    rests = at_rest space _ (opened_is_quiescent space (limits_of blocks) is opened image);
+    rests = at_rest space _ (opened_is_quiescent space (limits_of blocks registers) is opened image);
     untraced = refl;
-    limits = opened.limits ∙ ap (λ (l : Limits). limits_of l.blocks) (sym opened.limits);
+    limits = opened.limits ∙ ap (λ (l : Limits). limits_of l.blocks l.registers) (sym opened.limits);
     tally = opened.tally ∙ ap (λ p. record no_tally { pauses = p }) (sym opened.pauses);
     state = refl;
     world = (world, refl, same_shape world);
@@ -39,6 +39,6 @@ opened_heap space blocks bodies opened is image = record {
     drained = λ f. absurd f;
   };
   made = refl;
-  terms = λ i. record { blocks = (opened.limits i).blocks; bodies = bodies };
+  terms = λ i. record { blocks = (opened.limits i).blocks; bodies = bodies; registers = (opened.limits i).registers };
   untold = opened.report.told;
 }

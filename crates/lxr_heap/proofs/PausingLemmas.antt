@@ -11,9 +11,10 @@ use Rattle.lxr_graph.proofs.NameSets.{same_itself}
 use Rattle.lxr_image.specs.declared.space.Space.{Space}
 use Rattle.lxr_image.specs.declared.space.Tally.{Tally}
 use Rattle.lxr_image.specs.Opened.{no_tally}
+use Rattle.lxr_image.specs.Registers.{Registers}
 use Rattle.lxr_model.specs.Moments.{Moment, Trace, after_pause, going_on, trace_after}
 use Rattle.lxr_model.specs.Reports.{IsReport, is_draining}
-use Rattle.lxr_invariant.specs.AbstractState.{paused}
+use Rattle.lxr_invariant.specs.AbstractState.{AbstractState, paused}
 use Rattle.lxr_large_model.specs.History.{LargeItem, Paused, large_moment, large_state}
 use Rattle.lxr_large_model.specs.Pauses.{IsLargeKind, IsLegalLarge}
 use Rattle.lxr_large_bodies.specs.Bodies.{left_by}
@@ -49,6 +50,13 @@ can_pause x h is few =
       counted = (few, omega (arith, few, pauses));
       evacuated = (omega (arith, moved), omega (arith, kept));
     }
+
+-- a pause of a space whose registers were counted again is one of the space
+pub recounted : (s after : Space) (registers : Registers) (ask : Ask) (pace : Pace) → registers ≡ s.registers
+    → ((g : AbstractState) → CanPause (record s { registers = registers }) g → (at' : Name → ℕ) × Pauses (record s { registers = registers }) after g at' ask pace)
+    → (g : AbstractState) → CanPause s g → (at' : Name → ℕ) × Pauses s after g at' ask pace
+recounted s after registers ask pace same pauses =
+    subst (λ z. (g : AbstractState) → CanPause z g → (at' : Name → ℕ) × Pauses z after g at' ask pace) (ap (λ z. record s { registers = z }) same) pauses
 
 -- no pace of which the number is no multiple begins a trace
 pub kind_told : (collect : Bool) (pace : Pace) (k : ℕ) (trace : Option Trace) (traced : Bool) → trace ≡ None → k % pace.trace ≢ 0 → kind_of (asked collect) pace k trace traced ≡ kind_asked collect
@@ -144,7 +152,7 @@ pauses_heap x h is space left collect pace apart pauses left_is =
     let unmoved = none_moved x h is space collect pace at' apart p in
     let none_kept : p.kept ≡ [] = nobody p.kept (λ n member. no_end collect space.report.kind told ((p.evacuates.kept_are.members n).0 member).0.ends) in
     let tally = p.tally ∙ (λ i. record (is.tally i) { pauses = (is.tally i).pauses + 1; moved = (is.tally i).moved + length (unmoved i); kept = (is.tally i).kept + length (none_kept i) }) in
-    let terms : terms_of (behind_pause x space left collect) ≡ terms_of x = λ i. record { blocks = (keeps i).blocks; bodies = x.bodies.blocks } in
+    let terms : terms_of (behind_pause x space left collect) ≡ terms_of x = λ i. record { blocks = (keeps i).blocks; bodies = x.bodies.blocks; registers = (keeps i).registers } in
     record {
       kind = told;
       made = refl;
@@ -156,7 +164,7 @@ pauses_heap x h is space left collect pace apart pauses left_is =
         at = at';
         rests = at_rest space (paused (abstract_after h is.at) at' r) p.between;
         untraced = no_trace collect m r is.untraced told;
-        limits = keeps ∙ is.limits ∙ ap (λ l. limits_of l.blocks) (sym keeps);
+        limits = keeps ∙ is.limits ∙ ap (λ l. limits_of l.blocks l.registers) (sym keeps);
         tally = tally ∙ ap (λ k. record no_tally { pauses = k }) (sym counted);
         state = is.state;
         world = is.world;

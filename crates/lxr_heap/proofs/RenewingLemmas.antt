@@ -233,7 +233,7 @@ module _ (x y : Heap) (h : List LargeItem) (fresh : IsTrue x.fresh) (tells : Tel
     rests = stand_renewed is.at is.rests
 
     terms : terms_of after ≡ terms_of y
-    terms = λ i. record { blocks = (keeps i).blocks; bodies = y.bodies.blocks }
+    terms = λ i. record { blocks = (keeps i).blocks; bodies = y.bodies.blocks; registers = (keeps i).registers }
 
     world : HasWorld (renewed_graph 1 ns (large_state h).small.graph)
     world =
@@ -278,7 +278,7 @@ module _ (x y : Heap) (h : List LargeItem) (fresh : IsTrue x.fresh) (tells : Tel
         at = r.at;
         rests = rests;
         untraced = refl;
-        limits = keeps ∙ is.limits ∙ ap (λ (l : Limits). limits_of l.blocks) (sym keeps);
+        limits = keeps ∙ is.limits ∙ ap (λ (l : Limits). limits_of l.blocks l.registers) (sym keeps);
         tally = ap (λ (s : Space). s.tally) r.space ∙ ap (λ k. record no_tally { pauses = k }) (sym none);
         state = ap (renewed_state 1 ns) is.state;
         world = world;

@@ -14,15 +14,20 @@ use Rattle.lxr_large_model.specs.declared.LargeReply.{LargeReply}
 use Rattle.lxr_large_model.specs.declared.LargeReply.TheVariants as large_reply
 use Rattle.lxr_large_model.specs.History.{LargeItem, Called, large_moment}
 use Rattle.lxr_large_model.specs.State.{handle}
-use Rattle.lxr_large_model.specs.Step.{IsLargeOp}
+use Rattle.lxr_large_model.specs.Step.{IsLargeOpFor}
 use Rattle.lxr_large_bodies.specs.Bodies.{Held, IsFreeRun}
 use Rattle.lxr_heap.specs.declared.heap.Heap.{Heap}
 use Rattle.lxr_heap.specs.Holding.{IsHeapOf, StayInBlocks, StayInPlace, made_with, terms_of}
 
--- an operation that a heap may be called with: its registers, its shape and its body fit, and it is one of the first version of scripts
-abbrev pub MayBeCalled : LargeOp → Type 0
-MayBeCalled (large_op.Small o) = IsLargeOp (large_op.Small o) × IsOfFirstVersion o
-MayBeCalled o = IsLargeOp o
+-- an operation that a heap of so many registers may be called with: its registers, its shape and its body fit, and it is one of the first
+-- version of scripts
+abbrev pub MayBeCalled : ℕ → LargeOp → Type 0
+MayBeCalled registers (large_op.Small o) = IsLargeOpFor registers (large_op.Small o) × IsOfFirstVersion o
+MayBeCalled registers o = IsLargeOpFor registers o
+
+-- an operation that some heap may be called with
+abbrev pub IsCallable : LargeOp → Type 0
+IsCallable o = (registers : ℕ) × MayBeCalled registers o
 
 -- some run of so many blocks is free
 abbrev pub HasRun : Held → ℕ → Type 0

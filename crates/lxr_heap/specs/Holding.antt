@@ -25,13 +25,14 @@ use Rattle.lxr_large_bodies.specs.Bodies.{Body, body_of}
 use Rattle.lxr_large_bodies.specs.Kept.{HoldsBodies}
 use Rattle.lxr_heap.specs.declared.heap.Heap.{Heap}
 
--- the limits of the space: one thread, whose log has 1,024 entries; no trace runs beside it, so nothing is remembered for one
-abbrev pub limits_of : ℕ → Limits
-limits_of blocks = record { blocks = blocks; threads = 1; log = 1024; remember = 1; evacuate = 0 }
+-- the limits of the space: one thread, which may name so many registers, and whose log has 1,024 entries; no trace runs beside it, so nothing is
+-- remembered for one
+abbrev pub limits_of : ℕ → ℕ → Limits
+limits_of blocks registers = record { blocks = blocks; threads = 1; log = 1024; remember = 1; registers = registers; evacuate = 0 }
 
--- the blocks of the heap, and those for bodies
+-- the blocks of the heap, those for bodies, and how many registers its thread may name
 abbrev pub terms_of : Heap → LargeTerms
-terms_of x = record { blocks = x.space.limits.blocks; bodies = x.bodies.blocks }
+terms_of x = record { blocks = x.space.limits.blocks; bodies = x.bodies.blocks; registers = x.space.limits.registers }
 
 -- the report of the last pause of a history; a renewal leaves it as it was
 abbrev pub last_report : List LargeItem → PauseReport
@@ -104,7 +105,7 @@ pub record IsHeapOf (x : Heap) (h : List LargeItem) : Type 0 where
   pub at : Name → ℕ
   pub rests : StandAt x.space h at
   pub untraced : (large_moment h).trace ≡ None
-  pub limits : x.space.limits ≡ limits_of x.space.limits.blocks
+  pub limits : x.space.limits ≡ limits_of x.space.limits.blocks x.space.limits.registers
   pub tally : x.space.tally ≡ record no_tally { pauses = x.space.pauses }
   pub state : (large_moment h).state ≡ (large_state h).small
   pub world : HasWorld (large_state h).small.graph
@@ -117,9 +118,9 @@ pub record IsHeapOf (x : Heap) (h : List LargeItem) : Type 0 where
   pub collected : IsFresh h → IsCollected (large_moment h)
   pub drained : IsFresh h → (tables_of x.space).cursors DECREMENT_COUNT ≡ 0
 
--- a heap without a history yet: one of these blocks, and of these for bodies; nothing is told of counts
-pub record IsOpenedHeap (x : Heap) (blocks bodies : ℕ) : Type 0 where
+-- a heap without a history yet: one of these blocks, and of these for bodies, whose thread may name so many registers; nothing is told of counts
+pub record IsOpenedHeap (x : Heap) (blocks bodies registers : ℕ) : Type 0 where
   pub holds : IsHeapOf x []
   pub made : x.made ≡ 0
-  pub terms : terms_of x ≡ record { blocks = blocks; bodies = bodies }
+  pub terms : terms_of x ≡ record { blocks = blocks; bodies = bodies; registers = registers }
   pub untold : x.space.report.told.items ≡ []

@@ -1,5 +1,5 @@
 -- What a heap tells of what a register holds.
-use Rattle.std.specs.Prelude.{ℕ, ◌/◌, ◌<◌, Bool, true, false, Option, Some, None, List, length}
+use Rattle.std.specs.Prelude.{ℕ, ◌/◌, ⊤, Bool, true, false, Option, Some, None, List, length}
 use Rattle.lxr_layout.specs.declared.Name.{Name}
 use Rattle.lxr_layout.specs.declared.Shape.{Shape}
 use Rattle.lxr_layout.specs.declared.TheConstants.{WORDS_IN_BLOCK}
@@ -13,14 +13,14 @@ use Rattle.lxr_large_model.specs.State.{LargeState, body_of}
 
 -- an operation on small objects that only looks: a data word is read, or two registers are compared
 abbrev pub IsSmallLook : Op → Type 0
-IsSmallLook (op.Get base index) = base < 16
-IsSmallLook (op.Same left right) = (left < 16) × (right < 16)
+IsSmallLook (op.Get base index) = ⊤
+IsSmallLook (op.Same left right) = ⊤
 IsSmallLook _ = ⊥
 
 -- an operation that only looks: one of these, or a read of a word of a body
 abbrev pub IsLook : LargeOp → Type 0
 IsLook (large_op.Small o) = IsSmallLook o
-IsLook (large_op.BigGet base index) = base < 16
+IsLook (large_op.BigGet base index) = ⊤
 IsLook _ = ⊥
 
 -- how many blocks a body has, where there is one

@@ -1,6 +1,6 @@
 //! One operation on a heap.
 ghost use Rattle.std.specs.Prelude.{◌≡◌, ◌-◌, ◌^◌, ◌<◌, ◌≤◌, List, if◌then◌else◌};
-ghost use Rattle.lxr_graph.specs.Step.{IsWellFormed};
+ghost use Rattle.lxr_graph.specs.Step.{IsFormedFor};
 ghost use Rattle.lxr_direct.specs.Operating.{IsOfFirstVersion};
 ghost use Rattle.lxr_large_model.specs.declared.Acted.TheVariants as acted;
 ghost use Rattle.lxr_large_model.specs.declared.LargeOp.TheVariants as large_op;
@@ -51,7 +51,7 @@ fn made_with(made: u32, reply: Reply) -> u32
 fn act_small(heap: &mut Heap, op: Op) -> Acted
     requires holds { (h : List LargeItem) × IsHeapOf heap.old h }
     requires made { heap.old.made < 2 ^ 32 - 1 }
-    requires op { IsWellFormed op × IsOfFirstVersion op }
+    requires op { IsFormedFor heap.old.space.limits.registers op × IsOfFirstVersion op }
     ensures { (h : List LargeItem) → IsHeapOf heap.old h → Acts heap.old heap.new h (large_op.Small op) result }
 {
     match operate(&mut heap.space, MUTATOR, heap.made + 1, op) {
@@ -69,7 +69,7 @@ fn act_small(heap: &mut Heap, op: Op) -> Acted
 fn make_large(heap: &mut Heap, dest: u8, blocks: u32) -> Acted
     requires holds { (h : List LargeItem) × IsHeapOf heap.old h }
     requires made { heap.old.made < 2 ^ 32 - 1 }
-    requires dest { dest < 16 }
+    requires dest { dest < heap.old.space.limits.registers }
     requires blocks { (1 ≤ blocks) × (blocks ≤ MOST_BODY_BLOCKS) }
     ensures { (h : List LargeItem) → IsHeapOf heap.old h → Acts heap.old heap.new h (large_op.Big dest blocks) result }
 {
@@ -118,7 +118,7 @@ pub(crate) fn got_reply(word: Option<u64>) -> LargeReply
 #[inline(always)]
 fn put_word(heap: &mut Heap, base: u8, index: u32, value: u64) -> LargeReply
     requires holds { (h : List LargeItem) × IsHeapOf heap.old h }
-    requires base { base < 16 }
+    requires base { base < heap.old.space.limits.registers }
     ensures { (h : List LargeItem) → IsHeapOf heap.old h → Acts heap.old heap.new h (large_op.BigPut base index value) (acted.Replied result) }
 {
     heap.fresh = false;
@@ -132,7 +132,7 @@ fn put_word(heap: &mut Heap, base: u8, index: u32, value: u64) -> LargeReply
 #[inline(always)]
 fn get_word(heap: &mut Heap, base: u8, index: u32) -> LargeReply
     requires holds { (h : List LargeItem) × IsHeapOf heap.old h }
-    requires base { base < 16 }
+    requires base { base < heap.old.space.limits.registers }
     ensures { (h : List LargeItem) → IsHeapOf heap.old h → Acts heap.old heap.new h (large_op.BigGet base index) (acted.Replied result) }
 {
     heap.fresh = false;
@@ -147,7 +147,7 @@ fn get_word(heap: &mut Heap, base: u8, index: u32) -> LargeReply
 pub(crate) fn act(heap: &mut Heap, op: LargeOp) -> Acted
     requires holds { (h : List LargeItem) × IsHeapOf heap.old h }
     requires made { heap.old.made < 2 ^ 32 - 1 }
-    requires op { MayBeCalled op }
+    requires op { MayBeCalled heap.old.space.limits.registers op }
     ensures { (h : List LargeItem) → IsHeapOf heap.old h → Acts heap.old heap.new h op result }
 {
     match op {

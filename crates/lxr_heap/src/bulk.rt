@@ -20,15 +20,17 @@ pub enum BodyReply {
     Range,
 }
 
-/// The reply by whether the object has a body with all these words.
-#[inline(always)]
-fn reply_of(found: bool) -> BodyReply
-    ensures { result ≡ (if found then body_reply.Done else body_reply.Range) }
-{
-    if found {
-        BodyReply::Done
-    } else {
-        BodyReply::Range
+impl BodyReply {
+    /// The reply by whether the object has all that was named.
+    #[inline(always)]
+    pub fn of(found: bool) -> BodyReply
+        ensures { result ≡ (if found then body_reply.Done else body_reply.Range) }
+    {
+        if found {
+            BodyReply::Done
+        } else {
+            BodyReply::Range
+        }
     }
 }
 
@@ -44,13 +46,12 @@ fn fresh_behind(fresh: bool, words: &[u64]) -> bool
 #[inline(always)]
 pub(crate) fn read(heap: &Heap, base: u8, index: u32, into: &mut [u64]) -> BodyReply
     requires holds { (h : List LargeItem) × IsHeapOf heap.now h }
-    requires base { base < 16 }
     ensures reply { (h : List LargeItem) → IsHeapOf heap.now h → result ≡ bulk_reply (large_state h) (base_held h base) index (length into.old) }
     ensures words { (h : List LargeItem) → IsHeapOf heap.now h → into.new ≡ unwrap_or (words_held (large_state h) (base_held h base) index (length into.old)) into.old }
 {
     match name_in(&heap.space, MUTATOR, base) {
         None => BodyReply::Bad,
-        Some(name) => reply_of(heap.bodies.read(name, index, into)),
+        Some(name) => BodyReply::of(heap.bodies.read(name, index, into)),
     }
 }
 
@@ -58,7 +59,7 @@ pub(crate) fn read(heap: &Heap, base: u8, index: u32, into: &mut [u64]) -> BodyR
 #[inline(always)]
 pub(crate) fn write(heap: &mut Heap, base: u8, index: u32, from: &[u64]) -> BodyReply
     requires holds { (h : List LargeItem) × IsHeapOf heap.old h }
-    requires base { base < 16 }
+    requires base { base < heap.old.space.limits.registers }
     ensures { (h : List LargeItem) → IsHeapOf heap.old h → WritesWords heap.old heap.new h base index from.now result }
 {
     let Some(name) = name_in(&heap.space, MUTATOR, base) else {

@@ -16,7 +16,7 @@ mod renewing;
 mod telling;
 
 ghost use Rattle.std.specs.Prelude.{◌≡◌, ◌↔◌, ◌+◌, ◌-◌, ◌^◌, ◌<◌, ◌≤◌, IfOk, IsTrue, List, [], None, length, unwrap_or};
-ghost use Rattle.lxr_layout.specs.declared.TheConstants.{MOST_BLOCKS};
+ghost use Rattle.lxr_layout.specs.declared.TheConstants.{MOST_BLOCKS, REGISTERS};
 ghost use Rattle.lxr_graph.specs.State.{register_at};
 ghost use Rattle.lxr_image.specs.Spaces.{tables_of};
 ghost use Rattle.lxr_blocks.specs.Listing.{listed_frees};
@@ -65,14 +65,20 @@ impl Model for LargeHeap {
 }
 
 impl LargeHeap {
-    /// A heap of so many blocks, and so many for bodies, 1 to 65,536 each: it has the world alone, which r0 holds. All its memory
-    /// is reserved here, and written as it is used, but for a word of each block.
-    pub fn open(alloc: Global, blocks: u32, bodies: u32) -> Result<LargeHeap, AllocError>
+    /// A heap of so many blocks, and so many for bodies, 1 to 65,536 each, whose operations name the first 16 to 256 registers: it has
+    /// the world alone, which r0 holds. All its memory is reserved here, and written as it is used, but for a word of each block.
+    pub fn open(
+        alloc: Global,
+        blocks: u32,
+        bodies: u32,
+        registers: u16,
+    ) -> Result<LargeHeap, AllocError>
         requires blocks { (1 ≤ blocks) × (blocks ≤ MOST_BLOCKS) }
         requires bodies { (1 ≤ bodies) × (bodies ≤ MOST_BLOCKS) }
-        ensures { IfOk result (λ heap. IsOpenedHeap heap blocks bodies) }
+        requires registers { (16 ≤ registers) × (registers ≤ REGISTERS) }
+        ensures { IfOk result (λ heap. IsOpenedHeap heap blocks bodies registers) }
     {
-        let heap = opening::open(alloc, blocks, bodies)?;
+        let heap = opening::open(alloc, blocks, bodies, registers)?;
         Ok(LargeHeap { heap })
     }
 
@@ -83,7 +89,7 @@ impl LargeHeap {
     #[inline(always)]
     pub fn act(&mut self, op: LargeOp) -> Acted
         requires made { self.old.made < 2 ^ 32 - 1 }
-        requires op { MayBeCalled op }
+        requires op { MayBeCalled self.old.space.limits.registers op }
         ensures { (h : List LargeItem) → IsHeapOf self.old h → Acts self.old self.new h op result }
     {
         acting::act(&mut self.heap, op)
@@ -102,7 +108,6 @@ impl LargeHeap {
     /// Whether a register is nil.
     #[inline(always)]
     pub fn is_nil(&self, register: u8) -> bool
-        requires register { register < 16 }
         ensures { (h : List LargeItem) → IsHeapOf self.now h → IsTrue result ↔ (register_at (large_state h).small 1 register ≡ None) }
     {
         looking::is_nil(&self.heap, register)
@@ -112,7 +117,6 @@ impl LargeHeap {
     /// exactly where the register is nil.
     #[inline(always)]
     pub fn shape(&self, base: u8) -> Option<(Shape, u32)>
-        requires base { base < 16 }
         ensures { (h : List LargeItem) → IsHeapOf self.now h → result ≡ shape_held (large_state h) (register_at (large_state h).small 1 base) }
     {
         looking::shape(&self.heap, base)
@@ -121,7 +125,6 @@ impl LargeHeap {
     /// Reads words of the body of what `base` holds, from word `index` on, as many as there is room for: all of them or none.
     #[inline(always)]
     pub fn read(&self, base: u8, index: u32, into: &mut [u64]) -> BodyReply
-        requires base { base < 16 }
         ensures reply { (h : List LargeItem) → IsHeapOf self.now h → result ≡ bulk_reply (large_state h) (base_held h base) index (length into.old) }
         ensures words { (h : List LargeItem) → IsHeapOf self.now h → into.new ≡ unwrap_or (words_held (large_state h) (base_held h base) index (length into.old)) into.old }
     {
@@ -132,7 +135,7 @@ impl LargeHeap {
     /// `bput` for each of them, in order.
     #[inline(always)]
     pub fn write(&mut self, base: u8, index: u32, from: &[u64]) -> BodyReply
-        requires base { base < 16 }
+        requires base { base < self.old.space.limits.registers }
         ensures { (h : List LargeItem) → IsHeapOf self.old h → WritesWords self.old self.new h base index from.now result }
     {
         bulk::write(&mut self.heap, base, index, from)
@@ -214,6 +217,14 @@ impl LargeHeap {
         ensures { result ≡ self.now.made }
     {
         self.heap.made
+    }
+
+    /// How many registers an operation may name: the first so many.
+    #[inline(always)]
+    pub fn registers(&self) -> u16
+        ensures { result ≡ self.now.space.limits.registers }
+    {
+        self.heap.space.limits.registers
     }
 
     /// How many pauses were made. A pause asks that this is below 2^32 - 1.

@@ -25,7 +25,6 @@ use lxr_layout::Shape;
 #[inline(always)]
 pub(crate) fn is_nil(heap: &Heap, register: u8) -> bool
     requires holds { (h : List LargeItem) × IsHeapOf heap.now h }
-    requires register { register < 16 }
     ensures { (h : List LargeItem) → IsHeapOf heap.now h → IsTrue result ↔ (register_at (large_state h).small 1 register ≡ None) }
 {
     is_nil_in(&heap.space, MUTATOR, register)
@@ -35,7 +34,6 @@ pub(crate) fn is_nil(heap: &Heap, register: u8) -> bool
 #[inline(always)]
 fn see_word(heap: &Heap, base: u8, index: u32) -> LargeReply
     requires holds { (h : List LargeItem) × IsHeapOf heap.now h }
-    requires base { base < 16 }
     ensures { (h : List LargeItem) → IsHeapOf heap.now h → IsLargeReply (large_state h) (large_op.BigGet base index) result }
 {
     match name_in(&heap.space, MUTATOR, base) {
@@ -76,7 +74,6 @@ pub(crate) fn see(heap: &Heap, op: LargeOp) -> LargeReply
 #[inline(always)]
 pub(crate) fn shape(heap: &Heap, base: u8) -> Option<(Shape, u32)>
     requires holds { (h : List LargeItem) × IsHeapOf heap.now h }
-    requires base { base < 16 }
     ensures { (h : List LargeItem) → IsHeapOf heap.now h → result ≡ shape_held (large_state h) (register_at (large_state h).small 1 base) }
 {
     match object_in(&heap.space, MUTATOR, base) {

@@ -1,6 +1,6 @@
 //! How a heap is opened.
 ghost use Rattle.std.specs.Prelude.{◌≤◌, IfOk};
-ghost use Rattle.lxr_layout.specs.declared.TheConstants.{MOST_BLOCKS};
+ghost use Rattle.lxr_layout.specs.declared.TheConstants.{MOST_BLOCKS, REGISTERS};
 ghost use Rattle.lxr_heap.specs.Holding.{IsOpenedHeap};
 
 use crate::MUTATOR;
@@ -13,17 +13,24 @@ use std::alloc::{AllocError, Global};
 /// How many stores are recorded between two pauses at most.
 const LOG: u32 = 1024;
 
-/// A heap of so many blocks, and so many for bodies: the world alone, which r0 holds.
-pub(crate) fn open(alloc: Global, blocks: u32, bodies: u32) -> Result<Heap, AllocError>
+/// A heap of so many blocks, and so many for bodies, whose thread may name so many registers: the world alone, which r0 holds.
+pub(crate) fn open(
+    alloc: Global,
+    blocks: u32,
+    bodies: u32,
+    registers: u16,
+) -> Result<Heap, AllocError>
     requires blocks { (1 ≤ blocks) × (blocks ≤ MOST_BLOCKS) }
     requires bodies { (1 ≤ bodies) × (bodies ≤ MOST_BLOCKS) }
-    ensures { IfOk result (λ heap. IsOpenedHeap heap blocks bodies) }
+    requires registers { (16 ≤ registers) × (registers ≤ REGISTERS) }
+    ensures { IfOk result (λ heap. IsOpenedHeap heap blocks bodies registers) }
 {
     let limits = Limits {
         blocks,
         threads: MUTATOR,
         log: LOG,
         remember: 1,
+        registers,
         evacuate: 0,
     };
     let mut space = Space::empty(alloc);

@@ -49,13 +49,14 @@ fn left_after(left: u32, report: &Report) -> u32
 }
 
 /// Makes a pause. What is unreachable is reclaimed where it is to collect, and else what counts show to be dead; bodies stay where their names
-/// do. Nothing is told of counts.
+/// do. It looks at as many registers as hold something now or did at the last pause. Nothing is told of counts.
 pub(crate) fn pause(heap: &mut Heap, collect: bool)
     requires holds { (h : List LargeItem) × IsHeapOf heap.old h }
     requires number { heap.old.space.pauses + 1 < 2 ^ 32 }
     ensures pauses { (h : List LargeItem) → IsHeapOf heap.old h → PausesHeap heap.old heap.new h collect }
     ensures untold { heap.new.space.report.told.items ≡ [] }
 {
+    heap.space.registers.recount(0);
     let ask = asked(collect);
     let pace = untraced_pace(heap.space.pauses + 1);
     one_pause(&mut heap.space, ask, pace);

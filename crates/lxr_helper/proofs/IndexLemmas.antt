@@ -5,10 +5,12 @@ use Rattle.lxr_layout.specs.Spaces.{AreLimits}
 use Rattle.lxr_helper.specs.Indexes.{SpacesHaveIndexes}
 
 -- the list of decrements has few words
-few_listed : (l : Limits) → AreLimits l → l.threads * (l.log + 16) ≤ 255 * 65552
+few_listed : (l : Limits) → AreLimits l → l.threads * (l.log + l.registers) ≤ 255 * 65792
 few_listed l are =
     let threads : l.threads ≤ 255 = omega arith in
-    let entries : l.log + 16 ≤ 65552 = omega arith in
+    let log = are.log.1 in
+    let registers = are.registers.1 in
+    let entries : l.log + l.registers ≤ 65792 = omega (arith, log, registers) in
     mul-le-mul threads entries
 
 pub have_indexes : SpacesHaveIndexes

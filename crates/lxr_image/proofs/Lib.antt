@@ -4,8 +4,10 @@ pub mod TableLaws
 pub mod BitWordLemmas
 pub mod OutLemmas
 pub mod SpaceLemmas
+pub mod PassedLemmas
 pub mod OpenLemmas
 pub mod ImageLemmas
 pub mod NewLemmas
 pub mod ReadLemmas
 pub mod OpeningLemmas
+pub mod RegisterLemmas

@@ -81,10 +81,10 @@ pub record HasReportRoom (r : Report) (granules : ℕ) : Type 0 where
   pub swept : r.swept.room ≡ granules
   pub told : r.told.room ≡ granules
 
--- the room that each list of a space has, from the opening on
+-- the room that each list of a space has, from the opening on, and the registers that a thread may name
 pub record HasRoom (s : Space) : Type 0 where
-  pub registers : s.registers.room ≡ 16 * s.limits.threads
-  pub deferred : s.deferred.room ≡ 16 * s.limits.threads
+  pub registers : s.registers.width ≡ s.limits.registers
+  pub deferred : s.deferred.width ≡ s.limits.registers
   pub logged : s.logged.room ≡ s.limits.threads * s.limits.log
   pub work : s.work.room ≡ GRANULES_IN_BLOCK * s.limits.blocks
   pub report : HasReportRoom s.report (GRANULES_IN_BLOCK * s.limits.blocks)

@@ -10,6 +10,7 @@
 mod laws;
 mod objects;
 mod open;
+mod registers;
 mod rest;
 mod space;
 mod tables;
@@ -19,5 +20,6 @@ pub use laws::{
     outside_keeps_image, put_keeps_image, register_keeps_places, store_keeps_image,
 };
 pub use open::{NO_TALLY, WORLD_STATE};
+pub use registers::RegisterFile;
 pub use rest::Rest;
 pub use space::{Entries, Places, Space, Tally};

@@ -3,29 +3,25 @@
 //! A space takes all its memory when it is opened: the room of its words and of its lists, of which nothing is written.
 //! Then the world is placed and the blocks are listed, a word each.
 ghost use Rattle.std.specs.Prelude.{◌≡◌, ◌+◌, ◌*◌, ◌^◌, ◌≤◌, ◌++◌, ◌↔◌, [], IfOk, IsTrue, OnErr, OnOk, length, map};
-ghost use Rattle.lxr_graph.specs.State.{opening_registers, opening_row};
 ghost use Rattle.lxr_image.specs.Image.{IsOpeningImage};
-ghost use Rattle.lxr_image.specs.Opened.{HasReportRoom, IsBlank, IsNew, IsOpened, cleared_tables, no_tally, opening_place, with_blocks, with_world};
+ghost use Rattle.lxr_image.specs.Opened.{HasReportRoom, IsBlank, IsNew, IsOpened, cleared_tables, no_tally, with_blocks, with_world};
 ghost use Rattle.lxr_image.specs.Reads.{StartsStandWhole};
 ghost use Rattle.lxr_image.specs.Spaces.{IsSpace, Turns, tables_of};
 ghost use Rattle.lxr_layout.specs.declared.TheConstants.{MOST_GRANULES};
 ghost use Rattle.lxr_layout.specs.Spaces.{AreLimits, all_regions, region_begin};
 
-use crate::{Places, Space, Tally};
+use crate::{RegisterFile, Space, Tally};
 use lxr_base::{Chronicle, Listed};
 use lxr_graph::{Kind, Report};
 use lxr_layout::{
-    FREE_BLOCK_COUNT, GRANULES_IN_BLOCK, GRANULES_IN_LINE, LINES_IN_BLOCK, Limits, Name, Place,
-    RUN_COUNT, Run, STUCK, Shape, WORLD_LINES, WORLD_REFS, pack, regions, run_word,
+    FREE_BLOCK_COUNT, GRANULES_IN_BLOCK, GRANULES_IN_LINE, LINES_IN_BLOCK, Limits, Name, RUN_COUNT,
+    Run, STUCK, Shape, WORLD_LINES, WORLD_REFS, pack, regions, run_word,
 };
 use lxr_tables::{PlainWords, Words};
 use std::alloc::{AllocError, Global};
 
 /// The state of the block in which the world lies.
 pub const WORLD_STATE: u64 = 4;
-
-/// Where the world stands, in every space and for good.
-const WORLD: Place = Place(1);
 
 /// The tally of a space in which nothing was done.
 pub const NO_TALLY: Tally = Tally {
@@ -37,30 +33,6 @@ pub const NO_TALLY: Tally = Tally {
     moved: 0,
     kept: 0,
 };
-
-/// Adds what the registers of one thread hold at the opening.
-fn push_opening_row(places: &mut Places)
-    requires { length places.old.items + 16 ≤ places.old.room }
-    ensures { places.new ≡ record places.old { items = places.old.items ++ map opening_place opening_row } }
-{
-    let mut row = [Place::NIL; 16];
-    row[0] = WORLD;
-    for place in row {
-        places.push(place);
-    }
-}
-
-/// What the registers of so many threads hold at the opening.
-fn opening_places(alloc: Global, threads: u8) -> Result<Places, AllocError>
-    ensures items { IfOk result (λ places. places.items ≡ map opening_place (opening_registers threads)) }
-    ensures room { IfOk result (λ places. places.room ≡ 16 * threads) }
-{
-    let mut places = Listed::with_room(alloc, 16 * usize::from(threads))?;
-    for _ in 0..threads {
-        push_opening_row(&mut places);
-    }
-    Ok(places)
-}
 
 /// The report of no pause, with room for what a pause of so many granules can report.
 fn blank_report(alloc: Global, granules: usize) -> Result<Report, AllocError>
@@ -98,10 +70,11 @@ impl Space {
                 threads: 0,
                 log: 0,
                 remember: 0,
+                registers: 0,
                 evacuate: 0,
             },
-            registers: Listed::new(alloc),
-            deferred: Listed::new(alloc),
+            registers: RegisterFile::empty(alloc),
+            deferred: RegisterFile::empty(alloc),
             logged: Listed::new(alloc),
             work: Listed::new(alloc),
             report: Report {
@@ -162,8 +135,8 @@ impl Space {
         Ok(Space {
             words: PlainWords::new(alloc, regions(limits).total as usize)?,
             limits,
-            registers: opening_places(alloc, limits.threads)?,
-            deferred: opening_places(alloc, limits.threads)?,
+            registers: RegisterFile::open(alloc, limits.threads, limits.registers)?,
+            deferred: RegisterFile::open(alloc, limits.threads, limits.registers)?,
             logged: Listed::with_room(alloc, usize::from(limits.threads) * limits.log as usize)?,
             work: Listed::with_room(alloc, granules)?,
             report: blank_report(alloc, granules)?,

@@ -2,6 +2,7 @@
 ghost use Rattle.std.specs.Prelude.{◌≡◌};
 ghost use Rattle.lxr_image.specs.Parts.{whole};
 
+use crate::RegisterFile;
 use crate::space::{Entries, Places, Space, Tally};
 use lxr_graph::Report;
 use lxr_layout::Limits;
@@ -11,8 +12,8 @@ use lxr_tables::PlainWords;
 #[derive(Drop)]
 pub struct Rest {
     pub limits: Limits,
-    pub registers: Places,
-    pub deferred: Places,
+    pub registers: RegisterFile,
+    pub deferred: RegisterFile,
     pub logged: Entries,
     pub work: Places,
     pub report: Report,

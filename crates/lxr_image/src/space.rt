@@ -1,4 +1,5 @@
 //! The space and its numbers.
+use crate::RegisterFile;
 use lxr_base::Listed;
 use lxr_graph::Report;
 use lxr_layout::{Limits, LogEntry, Place};
@@ -33,10 +34,10 @@ pub struct Tally {
 pub struct Space {
     pub words: PlainWords,
     pub limits: Limits,
-    /// What each thread's sixteen registers hold, thread 1 first.
-    pub registers: Places,
+    /// What each thread's 256 registers hold, thread 1 first.
+    pub registers: RegisterFile,
     /// What the registers held at the last pause.
-    pub deferred: Places,
+    pub deferred: RegisterFile,
     /// The entries of all logs, which the next pause reads.
     pub logged: Entries,
     /// Objects that a pause has found and not yet handled.

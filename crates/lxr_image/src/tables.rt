@@ -594,7 +594,7 @@ impl Space {
     #[inline(always)]
     pub fn decrement_at(&self, at: u32) -> u64
         requires space { IsSpace self.now }
-        requires at { at < self.now.limits.threads * (self.now.limits.log + 16) }
+        requires at { at < self.now.limits.threads * (self.now.limits.log + self.now.limits.registers) }
         ensures { result ≡ (tables_of self.now).decs at }
     {
         self.word_in(WordTable::Decrements, at as usize)
@@ -604,7 +604,7 @@ impl Space {
     #[inline(always)]
     pub fn put_decrement(&mut self, at: u32, value: u64)
         requires space { IsSpace self.old }
-        requires at { at < self.old.limits.threads * (self.old.limits.log + 16) }
+        requires at { at < self.old.limits.threads * (self.old.limits.log + self.old.limits.registers) }
         ensures { let t = tables_of self.old in
             Turns self.old self.new (record t { decs = changed t.decs at value }) }
     {

@@ -3,7 +3,7 @@ use Rattle.std.proofs.Common.{◌≡◌, ◌≢◌, ℕ, zero, suc, ◌+◌, ◌
 use Rattle.std.specs.Prelude.{◌&&◌, not, filter, Option, Some, None}
 use Rattle.lxr_layout.specs.declared.Name.{Name}
 use Rattle.lxr_layout.specs.declared.limits.Limits.{Limits}
-use Rattle.lxr_layout.specs.declared.TheConstants.{DECREMENT_COUNT, DECREMENT_CURSOR, GRANULES_IN_BLOCK, GRANULES_IN_LINE, STUCK, TRACING_WORD}
+use Rattle.lxr_layout.specs.declared.TheConstants.{DECREMENT_COUNT, DECREMENT_CURSOR, GRANULES_IN_BLOCK, GRANULES_IN_LINE, REGISTERS, STUCK, TRACING_WORD}
 use Rattle.lxr_layout.specs.Places.{first_word}
 use Rattle.lxr_layout.specs.Spaces.{AreLimits, all_regions, region_begin}
 use Rattle.lxr_graph.specs.Names.{has}
@@ -146,7 +146,7 @@ counts_still t u m at counts dones decs drawn waiting is = record {
 
 pub decrements_still : (k l : Limits) (t u : Tables) (m : Moment) (at : Name → ℕ) → l ≡ k → u.decs ≡ t.decs → u.cursors DECREMENT_COUNT ≡ t.cursors DECREMENT_COUNT → HasDecrements k t m at → HasDecrements l u m at
 decrements_still k l t u m at limits decs waiting is = record {
-  fits = subst (λ z. u.cursors DECREMENT_COUNT ≤ z.threads * (z.log + 16)) (sym limits) (subst (λ n. n ≤ k.threads * (k.log + 16)) (sym waiting) is.fits);
+  fits = subst (λ z. u.cursors DECREMENT_COUNT ≤ z.threads * (z.log + z.registers)) (sym limits) (subst (λ n. n ≤ k.threads * (k.log + k.registers)) (sym waiting) is.fits);
   places = λ i h. let x = is.places i (subst (λ n. i < n) waiting h) in (x.0, x.1, ap (λ f. f i) decs ∙ x.2);
 }
 
@@ -161,7 +161,7 @@ undecremented_still t u m at dones counts drawn is = record {
 
 -- there are as many registers as there are threads for
 abbrev pub AreAsMany : Space → Type 0
-AreAsMany s = (length s.registers.items ≡ 16 * s.limits.threads) × (length s.deferred.items ≡ 16 * s.limits.threads)
+AreAsMany s = (length s.registers.items ≡ REGISTERS * s.limits.threads) × (length s.deferred.items ≡ REGISTERS * s.limits.threads)
 
 -- the rest of the lines that were placed on last stays apart from what is left
 pub rest_left : (s after : Space) (m : Moment) (at : Name → ℕ) (vs : List Name) → ((n : Name) → IsTrue (has vs n) → IsTrue (has m.unreclaimed n))

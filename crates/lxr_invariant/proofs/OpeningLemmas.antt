@@ -8,7 +8,7 @@ use Rattle.std.proofs.lemmas.Bool.Decides.{eqb_tells}
 use Rattle.lxr_layout.specs.declared.limits.Limits.{Limits}
 use Rattle.lxr_layout.specs.declared.Name.{Name}
 use Rattle.lxr_layout.specs.declared.Place.{Place}
-use Rattle.lxr_layout.specs.declared.TheConstants.{GRANULES_IN_LINE, STUCK}
+use Rattle.lxr_layout.specs.declared.TheConstants.{GRANULES_IN_LINE, REGISTERS, STUCK}
 use Rattle.lxr_graph.specs.Names.{has}
 use Rattle.lxr_graph.specs.State.{Graph, Object, object_at, opening, opening_registers, opening_row, refs_of, world, world_name}
 use Rattle.lxr_graph.proofs.NameSets.{has_one, not_both}
@@ -21,6 +21,7 @@ use Rattle.lxr_image.specs.Opened.{IsOpened, opened_tables, opening_place}
 use Rattle.lxr_blocks.specs.declared.states.BlockState.TheVariants.{Free, World}
 use Rattle.lxr_blocks.specs.States.{state_in, state_of}
 use Rattle.lxr_model.specs.Moments.{Moment, opening_moment}
+use Rattle.lxr_image.proofs.RegisterLemmas.{length-opening}
 use Rattle.lxr_model_counting.proofs.FollowingLemmas.{opening_follows}
 use Rattle.lxr_invariant.specs.Standing.{HasBits}
 use Rattle.lxr_invariant.specs.Counting.{HasCounts, HasDecrements, IsUndecremented}
@@ -137,16 +138,10 @@ opening_blocks l =
 opening_unused : (l : Limits) → FreeAreUnused (opened_tables l) opening_at (world_name ∷ [])
 opening_unused l = record { objects = λ n member e. let k : World ≡ Free = e in cc; outs = λ line out. absurd (let no : false ≡ true = out in cc) }
 
--- ---- registers
-
-many_registers : (n : ℕ) → length (opening_registers n) ≡ 16 * n
-many_registers zero = refl
-many_registers (suc n) = let k = many_registers n in let both = length-append (opening_registers n) opening_row in omega (arith, k, both)
-
 -- ---- the whole
 
-many_at : (places : List Place) (threads now : ℕ) → places ≡ map opening_place (opening_registers threads) → now ≡ threads → length places ≡ 16 * now
-many_at places threads now are same = ap length are ∙ length-map (opening_registers threads) opening_place ∙ many_registers threads ∙ ap (λ z. 16 * z) (sym same)
+many_at : (places : List Place) (threads now : ℕ) → places ≡ map opening_place (opening_registers threads) → now ≡ threads → length places ≡ REGISTERS * now
+many_at places threads now are same = ap length are ∙ length-map (opening_registers threads) opening_place ∙ length-opening threads ∙ ap (λ z. REGISTERS * z) (sym same)
 
 pub opening_holds : (s : Space) (l : Limits) → IsSpace s → IsOpened s l → IsOpeningImage s → HoldsMoment s (opening_moment l.threads) opening_at
 opening_holds s l is opened image =

@@ -62,7 +62,7 @@ pub record HasCounts (t : Tables) (m : Moment) (at : Name → ℕ) : Type 0 wher
 
 -- the list of decrements has no more entries than it has room for, and each is the place of an unreclaimed object
 pub record HasDecrements (l : Limits) (t : Tables) (m : Moment) (at : Name → ℕ) : Type 0 where
-  pub fits : t.cursors DECREMENT_COUNT ≤ l.threads * (l.log + 16)
+  pub fits : t.cursors DECREMENT_COUNT ≤ l.threads * (l.log + l.registers)
   pub places : (k : ℕ) → k < t.cursors DECREMENT_COUNT → (n : Name) × IsTrue (has m.unreclaimed n) × (t.decs k ≡ at n)
 
 -- No decrementer has worked since the last pause: nothing is done, nothing is drawn, and no unreclaimed object has count 0.

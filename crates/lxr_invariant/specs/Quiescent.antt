@@ -1,6 +1,7 @@
 -- What holds of a space at a safepoint, where a pause may be made, and what holds of it between epochs.
 use Rattle.std.specs.Prelude.{◌≡◌, ℕ, ◌*◌, ◌≤◌, [], length}
 use Rattle.std.specs.Option.{option_map}
+use Rattle.lxr_layout.specs.declared.TheConstants.{REGISTERS}
 use Rattle.lxr_layout.specs.declared.Name.{Name}
 use Rattle.lxr_graph.specs.History.{report_of}
 use Rattle.lxr_image.specs.declared.space.Space.{Space}
@@ -18,7 +19,7 @@ use Rattle.lxr_invariant.specs.Tracing.{IsTracedBy}
 pub record HoldsMoment (s : Space) (m : Moment) (at : Name → ℕ) : Type 0 where
   pub space : IsSpace s
   pub room : HasRoom s
-  pub as_many : (length s.registers.items ≡ 16 * s.limits.threads) × (length s.deferred.items ≡ 16 * s.limits.threads)
+  pub as_many : (length s.registers.items ≡ REGISTERS * s.limits.threads) × (length s.deferred.items ≡ REGISTERS * s.limits.threads)
   pub follows : FollowsPause m
   pub image : IsImaged s m at
   pub bits : HasBits (tables_of s) m at m.unreclaimed

@@ -1,7 +1,7 @@
 -- The middle of a pause: all increments are done, and the decrements of old values aren't queued yet.
 use Rattle.std.specs.Prelude.{◌≡◌, ◌≢◌, ℕ, ◌+◌, ◌*◌, ◌≤◌, ◌↔◌, false, List, [], IsTrue, length, if◌then◌else◌}
 use Rattle.lxr_layout.specs.declared.Name.{Name}
-use Rattle.lxr_layout.specs.declared.TheConstants.{DECREMENT_COUNT, DECREMENT_CURSOR, STUCK}
+use Rattle.lxr_layout.specs.declared.TheConstants.{DECREMENT_COUNT, DECREMENT_CURSOR, REGISTERS, STUCK}
 use Rattle.lxr_graph.specs.Names.{has, union}
 use Rattle.lxr_graph.specs.State.{world_name}
 use Rattle.lxr_image.specs.declared.space.Space.{Space}
@@ -56,7 +56,7 @@ pub record CountsAreRaised (t : Tables) (m : Moment) (at : Name → ℕ) (promot
 pub record IsRaised (s : Space) (m : Moment) (at : Name → ℕ) (promoted stuck : List Name) : Type 0 where
   pub space : IsSpace s
   pub room : HasRoom s
-  pub as_many : (length s.registers.items ≡ 16 * s.limits.threads) × (length s.deferred.items ≡ 16 * s.limits.threads)
+  pub as_many : (length s.registers.items ≡ REGISTERS * s.limits.threads) × (length s.deferred.items ≡ REGISTERS * s.limits.threads)
   pub follows : FollowsPause m
   pub raised : AreRaised m promoted stuck
   pub image : IsImage (tables_of s) s.limits.blocks at m.state.graph (with_promoted m promoted)

@@ -1,11 +1,12 @@
 -- What a judge's tests tell of the history behind which it stands.
-use Rattle.std.proofs.Common.{◌≡◌, ℕ, suc, ◌+◌, ◌-◌, ◌^◌, ◌<◌, ◌≤◌, inl, inr, Bool, true, false, IsTrue, List, [], ◌∷◌, ◌++◌, Some, None, length, take, drop, refl, sym, ap, subst, ◌∙◌, arith, nat_eq, min}
+use Rattle.std.proofs.Common.{◌≡◌, ℕ, suc, ◌+◌, ◌-◌, ◌^◌, ◌<◌, ◌≤◌, inl, inr, Bool, true, false, IsTrue, List, [], ◌∷◌, ◌++◌, Some, None, length, take, drop, refl, sym, ap, subst, ◌∙◌, arith, lit≤, nat_eq, min}
 use Rattle.std.specs.Prelude.{◌↔◌, Option, IfSome, slice_get, slice_index_or}
 use Rattle.std.specs.List.{list_any}
 use Rattle.std.specs.Option.{option_map}
 use Rattle.std.proofs.lemmas.Bool.{cases_Bool, cases_lt, cond-true, cond-false, eqb-true, eq-eqb, and_parts, and_from, true≢false}
 use Rattle.std.proofs.lemmas.List.{length_push, take_more, take_all}
 use Rattle.std.proofs.lemmas.Option.{same_Some, slice_get_within, get_or_from_slice_get}
+use Rattle.lxr_layout.specs.declared.TheConstants.{REGISTERS}
 use Rattle.lxr_layout.specs.declared.Shape.{Shape}
 use Rattle.lxr_layout.specs.Objects.{line_count}
 use Rattle.lxr_graph.specs.declared.Op.{Op}
@@ -14,11 +15,13 @@ use Rattle.lxr_graph.specs.declared.Reply.{Reply}
 use Rattle.lxr_graph.specs.declared.Reply.TheVariants as reply
 use Rattle.lxr_graph.specs.declared.report.Kind.{Kind}
 use Rattle.lxr_graph.specs.declared.report.Kind.TheVariants as kind
-use Rattle.lxr_graph.specs.Step.{IsWellFormed, step}
+use Rattle.lxr_graph.specs.Step.{IsFormedFor, IsWellFormed, step}
 use Rattle.lxr_graph.specs.Names.{union, without}
 use Rattle.lxr_graph.specs.State.{State, row_of, world_name}
 use Rattle.lxr_graph.specs.History.{PauseReport, Item, Call, Pause, Renew, calls_of}
+use Rattle.lxr_graph.proofs.FormLemmas.{formed_more}
 use Rattle.lxr_graph.proofs.RowLemmas.{slice_get-push}
+use Rattle.lxr_text_script.specs.declared.TheConstants.{SCRIPT_REGISTERS}
 use Rattle.lxr_text_script.specs.Lines.{Text}
 use Rattle.lxr_graph.specs.declared.Item as ordered
 use Rattle.lxr_model.specs.Terms.{Terms}
@@ -65,7 +68,7 @@ formed_next e t k o readable low high at =
           subst IsWellFormed is tt
       | inr other ↦
           let there : slice_get os k ≡ Some o = sym (cond-false (nat_eq k (length os)) (Some op.End) (slice_get os k) other) ∙ found in
-          subst IsWellFormed (get_or_from_slice_get os k o op.End there) (thread.each k op.End (slice_get_within os k o there)).well_formed
+          formed_more SCRIPT_REGISTERS REGISTERS o (lit≤ tt) (subst (IsFormedFor SCRIPT_REGISTERS) (get_or_from_slice_get os k o op.End there) (thread.each k op.End (slice_get_within os k o there)).well_formed)
     ]
 
 -- the calls of a thread are the first of its operations

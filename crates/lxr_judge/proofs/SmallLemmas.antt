@@ -12,7 +12,7 @@ use Rattle.std.proofs.lemmas.List.Elements.{All-from_recursion}
 use Rattle.std.proofs.lemmas.Option.{none-some, same_Some}
 use Rattle.std.proofs.lemmas.Map.Views.{length-le_from_below}
 use Rattle.lxr_layout.specs.declared.Name.{Name}
-use Rattle.lxr_layout.specs.declared.TheConstants.{WORLD_REFS}
+use Rattle.lxr_layout.specs.declared.TheConstants.{REGISTERS, WORLD_REFS}
 use Rattle.lxr_graph.specs.declared.Op.{Op}
 use Rattle.lxr_graph.specs.declared.Op.TheVariants as op
 use Rattle.lxr_graph.specs.declared.Reply.{Reply}
@@ -162,8 +162,8 @@ references_few g (u ∷ us) o modest =
     let rest = references_few g us o modest in
     omega (arith, here, few, rest)
 
--- there are sixteen registers for each thread
-registers_are : (terms : Terms) (h : List Item) → IsUnrenewed h → IsLegalSoFar terms h → length (moment terms.threads h).state.registers ≡ 16 * terms.threads
+-- there are 256 registers for each thread
+registers_are : (terms : Terms) (h : List Item) → IsUnrenewed h → IsLegalSoFar terms h → length (moment terms.threads h).state.registers ≡ REGISTERS * terms.threads
 registers_are terms [] none legal = let follows = opening_follows terms.threads in let size = follows.registers in let rows = rows_are terms.threads [] none in omega (arith, size, rows)
 registers_are terms (Renew ns ∷ h) none legal = absurd none
 registers_are terms (Pause report ∷ h) none legal = registers_are terms h none legal.0

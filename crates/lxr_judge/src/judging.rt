@@ -420,7 +420,6 @@ impl Judging {
     ) -> Result<bool, AllocError>
         requires judging { IsJudging sources.now self.old }
         requires thread { (1 ≤ thread) × (thread ≤ sources.now.terms.threads) }
-        requires dest { dest < 16 }
         requires fits { FitsShape shape }
         ensures { IfOk result (λ passed. (h : List history.Item) → Keeps sources.now self.old h → TriedCall sources.now h thread (Op.New dest shape) self.new passed) }
     {

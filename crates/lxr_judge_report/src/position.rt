@@ -190,7 +190,6 @@ impl Position {
     /// A field of the object that a register holds, where that object is unreclaimed.
     fn unreclaimed_field(&self, thread: u8, base: u8, index: u16) -> Option<Written>
         requires thread { (0 < thread) × (thread < length self.now.state.graph) }
-        requires register { base < 16 }
         ensures { option_map field_of result
             ≡ present.unreclaimed_field self.now.last.unreclaimed (register_at self.now.state thread base) index }
     {

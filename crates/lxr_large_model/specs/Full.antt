@@ -20,10 +20,11 @@ use Rattle.lxr_large_model.specs.History.{LargeItem, Called, Paused, Renewed, la
 use Rattle.lxr_large_model.specs.State.{LargeState, body_of, handle}
 use Rattle.lxr_large_model.specs.Step.{IsLargeReply}
 
--- the blocks of the heap, and those for bodies
+-- the blocks of the heap, those for bodies, and how many registers its thread may name
 pub record LargeTerms : Type 0 where
   pub blocks : ℕ
   pub bodies : ℕ
+  pub registers : ℕ
 
 -- A pause is fresh for the next call: it collects, and nothing stands behind it but `new full`, `big full` and renewals.
 abbrev pub IsFresh : List LargeItem → Type 0

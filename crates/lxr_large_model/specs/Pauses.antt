@@ -12,7 +12,7 @@ use Rattle.lxr_large_model.specs.declared.LargeOp.TheVariants as large_op
 use Rattle.lxr_large_model.specs.declared.LargeReply.{LargeReply}
 use Rattle.lxr_large_model.specs.Full.{IsFresh, LargeReplies, LargeTerms, LeaveNoRoom, kept_names}
 use Rattle.lxr_large_model.specs.History.{LargeItem, Called, Paused, Renewed, large_moment, large_state}
-use Rattle.lxr_large_model.specs.Step.{IsLargeOp}
+use Rattle.lxr_large_model.specs.Step.{IsLargeOpFor}
 
 -- so many references are logged between two pauses at most
 abbrev pub most_logged : ℕ
@@ -24,9 +24,9 @@ IsLargeKind kind.Plain = ⊤
 IsLargeKind kind.Collect = ⊤
 IsLargeKind _ = ⊥
 
--- a call after h: with registers, a shape and a body that there are
+-- a call after h: with registers that the thread may name, and a shape and a body that there are
 pub record IsLargeCall (terms : LargeTerms) (h : List LargeItem) (o : LargeOp) (r : LargeReply) : Type 0 where
-  pub operation : IsLargeOp o
+  pub operation : IsLargeOpFor terms.registers o
   pub reply : LargeReplies terms h o r
 
 -- a pause after h: its report is that of the moment

@@ -5,7 +5,7 @@ use Rattle.lxr_graph.specs.declared.Op.TheVariants as op
 use Rattle.lxr_graph.specs.declared.Reply.{Reply}
 use Rattle.lxr_graph.specs.declared.Reply.TheVariants as reply
 use Rattle.lxr_graph.specs.State.{State, next_name, register_at}
-use Rattle.lxr_graph.specs.Step.{IsWellFormed, fresh, make, step}
+use Rattle.lxr_graph.specs.Step.{IsFormedFor, fresh, make, step}
 use Rattle.lxr_large_model.specs.declared.TheConstants.{MOST_BODY_BLOCKS}
 use Rattle.lxr_large_model.specs.declared.LargeOp.{LargeOp}
 use Rattle.lxr_large_model.specs.declared.LargeOp.TheVariants as large_op
@@ -59,12 +59,12 @@ large_step s (large_op.Big dest blocks) = make_large s dest blocks (next_name s.
 large_step s (large_op.BigPut base index value) = put_to s index value (register_at s.small 1 base)
 large_step s (large_op.BigGet base index) = (s, get_from s index (register_at s.small 1 base))
 
--- the operation's registers are below 16, its shape fits, and its body has 1 to 128 blocks
-abbrev pub IsLargeOp : LargeOp → Type 0
-IsLargeOp (large_op.Small o) = IsWellFormed o
-IsLargeOp (large_op.Big dest blocks) = (dest < 16) × (1 ≤ blocks) × (blocks ≤ MOST_BODY_BLOCKS)
-IsLargeOp (large_op.BigPut base index value) = base < 16
-IsLargeOp (large_op.BigGet base index) = base < 16
+-- an operation for a thread that may name so many registers: it names the first of them alone, its shape fits, and its body has 1 to 128 blocks
+abbrev pub IsLargeOpFor : ℕ → LargeOp → Type 0
+IsLargeOpFor n (large_op.Small o) = IsFormedFor n o
+IsLargeOpFor n (large_op.Big dest blocks) = (dest < n) × (1 ≤ blocks) × (blocks ≤ MOST_BODY_BLOCKS)
+IsLargeOpFor n (large_op.BigPut base index value) = base < n
+IsLargeOpFor n (large_op.BigGet base index) = base < n
 
 -- the state after a call with this reply: a `new` or a `big` that replied `full` changed nothing
 abbrev pub large_after : LargeState → LargeOp → LargeReply → LargeState

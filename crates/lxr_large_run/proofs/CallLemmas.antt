@@ -8,6 +8,7 @@ use Rattle.lxr_graph.specs.declared.report.Kind.{Kind}
 use Rattle.lxr_graph.specs.declared.report.Kind.TheVariants as kind
 use Rattle.lxr_graph.specs.declared.report.Report.{Report}
 use Rattle.lxr_graph.specs.History.{HasToldCounts, PauseReport, report_of}
+use Rattle.lxr_text_script.specs.declared.TheConstants.{SCRIPT_REGISTERS}
 use Rattle.lxr_text_script.specs.declared.Version.TheVariants.{One}
 use Rattle.lxr_text_script.specs.Spelling.{operation_version}
 use Rattle.lxr_text_print.specs.Reports.{is_plain}
@@ -35,7 +36,7 @@ first_version (op.Add base index value) is = absurd (cc)
 first_version o is = tt
 
 -- an operation of a script
-pub may_be_called : (o : LargeOp) → IsLargeOperation o → MayBeCalled o
+pub may_be_called : (o : LargeOp) → IsLargeOperation o → MayBeCalled SCRIPT_REGISTERS o
 may_be_called (large_op.Small o) is = (is.well_formed, first_version o is.first)
 may_be_called (large_op.Big dest blocks) is = is.well_formed
 may_be_called (large_op.BigPut base index value) is = is.well_formed

@@ -5,6 +5,7 @@ use Rattle.lxr_graph.specs.declared.Op.TheVariants as op
 use Rattle.lxr_graph.specs.History.{PauseReport}
 use Rattle.lxr_text_stream.specs.Streams.{Appends, AppendsFront}
 use Rattle.lxr_text_stream.proofs.StreamLemmas.{Appends-append, Appends-nil, AppendsFront-after}
+use Rattle.lxr_text_script.specs.declared.TheConstants.{SCRIPT_REGISTERS}
 use Rattle.lxr_large_model.specs.declared.LargeOp.{LargeOp}
 use Rattle.lxr_large_model.specs.declared.LargeOp.TheVariants as large_op
 use Rattle.lxr_large_model.specs.declared.LargeReply.{LargeReply}
@@ -19,18 +20,19 @@ use Rattle.lxr_heap.proofs.MomentLemmas.{quiescent}
 use Rattle.lxr_large_text.specs.Histories.{IsLargeHistory, called_in, replied_in, with_end}
 use Rattle.lxr_large_text.specs.Texts.{large_reports_text}
 use Rattle.lxr_large_text.proofs.HistoryLemmas.{as_many, ends_fresh, has_done}
-use Rattle.lxr_large_run.specs.Playing.{IsPlaying, LargeTask}
+use Rattle.lxr_large_run.specs.Playing.{IsPlaying, LargeTask, large_terms}
 use Rattle.lxr_large_run.proofs.CallLemmas.{tells_no_pause}
 use Rattle.lxr_large_run.specs.Played.{IsCutLate, IsLeftByLarge, IsPlayed}
 
 -- ---- the beginning
 
-pub begins : (task : LargeTask) (x : Heap) (blocks bodies : ℕ) (os : List LargeOp) → os ≡ task.operations → IsLargeScript task.operations → IsOpenedHeap x blocks bodies → task.terms ≡ record { blocks = blocks; bodies = bodies }
+pub begins : (task : LargeTask) (x : Heap) (blocks bodies : ℕ) (os : List LargeOp) → os ≡ task.operations → IsLargeScript task.operations → IsOpenedHeap x blocks bodies SCRIPT_REGISTERS → task.terms ≡ large_terms blocks bodies
     → IsPlaying task (with_end os) x task.written [] []
 begins task x blocks bodies os same script opened terms = record {
   script = script;
   holds = opened.holds;
   terms = opened.terms ∙ sym terms;
+  registers = ap (λ (t : LargeTerms). t.registers) terms;
   calls = ap with_end same;
   causes = tt;
   replies = refl;
@@ -54,6 +56,13 @@ next_comes task os i d x written replies h within p =
 pub end_comes : (task : LargeTask) (os : List LargeOp) (i : ℕ) (x : Heap) (written : Option (List ℕ)) (replies : List LargeReply) (h : List LargeItem) → length os ≤ i
     → IsPlaying task (with_end (drop i os)) x written replies h → IsPlaying task (large_op.Small op.End ∷ []) x written replies h
 end_comes task os i x written replies h over p = subst (λ (left : List LargeOp). IsPlaying task (with_end left) x written replies h) (drop_of_length-le os over) p
+
+-- ---- registers
+
+-- the heap has those of scripts
+pub registers_are : (task : LargeTask) (rest : List LargeOp) (x : Heap) (written : Option (List ℕ)) (replies : List LargeReply) (h : List LargeItem) → IsPlaying task rest x written replies h
+    → x.space.limits.registers ≡ SCRIPT_REGISTERS
+registers_are task rest x written replies h p = ap (λ (t : LargeTerms). t.registers) p.terms ∙ p.registers
 
 -- ---- numbers
 
@@ -83,7 +92,7 @@ space_left task x written replies h p =
     record {
       at = is.at;
       between = quiescent x.space _ is.rests c.written;
-      limits = is.limits ∙ ap (λ (t : LargeTerms). limits_of t.blocks) p.terms;
+      limits = is.limits ∙ ap (λ (t : LargeTerms). limits_of t.blocks t.registers) p.terms;
       tally = is.tally;
       state = is.state;
       reachable = c.exactly;

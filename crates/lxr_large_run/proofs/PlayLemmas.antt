@@ -2,6 +2,7 @@
 -- kept and the pause that it asks for is made.
 use Rattle.std.proofs.Common.{◌≡◌, ℕ, ◌+◌, ◌∙◌, sym, ap, subst, arith, Bool, List, [], ◌∷◌, ◌++◌, append_assoc, length, length-append, Option, Some, None}
 use Rattle.lxr_graph.specs.History.{report_of}
+use Rattle.lxr_text_script.specs.declared.TheConstants.{SCRIPT_REGISTERS}
 use Rattle.lxr_text_print.specs.Reports.{report_text}
 use Rattle.lxr_text_stream.specs.Streams.{Appends, AppendsFront}
 use Rattle.lxr_text_stream.proofs.StreamLemmas.{Appends-append, AppendsFront-after}
@@ -25,18 +26,19 @@ use Rattle.lxr_large_run.proofs.CallLemmas.{asks_for, asks_none}
 
 module _ (task : LargeTask) (o : LargeOp) (rest : List LargeOp) (x : Heap) (written : Option (List ℕ)) (replies : List LargeReply) (h : List LargeItem) (p : IsPlaying task (o ∷ rest) x written replies h) where
   -- it was done without a pause
-  pub came_directly : (y : Heap) (r : LargeReply) → MayBeCalled o → IsReplied x y h o r → HasCome task o rest r y written replies h
+  pub came_directly : (y : Heap) (r : LargeReply) → MayBeCalled SCRIPT_REGISTERS o → IsReplied x y h o r → HasCome task o rest r y written replies h
   came_directly y r may came = record {
     script = p.script;
     holds = came.holds;
     terms = came.terms ∙ p.terms;
+    registers = p.registers;
     calls = p.calls;
     causes = any_call_may_come task.terms h o r p.causes;
     replies = p.replies;
     text = p.text;
     told = subst (TellsPrinted task.counts) (sym came.reported) p.told;
     pauses = let same = called_pauses x y h o r p.holds came.holds in let few = p.pauses in omega (arith, same, few);
-    made = let more = called_makes x y h o r p.holds came.holds may in let few = p.made in omega (arith, more, few);
+    made = let more = called_makes x y h o r p.holds came.holds (SCRIPT_REGISTERS, may) in let few = p.made in omega (arith, more, few);
   }
 
   module _ (collect : Bool) (made : IsMadeFor task.terms h (kind_asked collect) o) (y : Heap) (paused : PausesHeap x y h collect) where
@@ -45,12 +47,13 @@ module _ (task : LargeTask) (o : LargeOp) (rest : List LargeOp) (x : Heap) (writ
     follows r = pauses_are_made_for task.terms h (report_of y.space.report) o r p.causes (subst (λ k. IsMadeFor task.terms h k o) (sym paused.kind) made)
 
     -- and was done behind it
-    pub came_behind : (z : Heap) (written' : Option (List ℕ)) (r : LargeReply) → MayBeCalled o → IsReplied y z (Paused (report_of y.space.report) ∷ h) o r
+    pub came_behind : (z : Heap) (written' : Option (List ℕ)) (r : LargeReply) → MayBeCalled SCRIPT_REGISTERS o → IsReplied y z (Paused (report_of y.space.report) ∷ h) o r
         → Appends written written' (report_text task.counts (report_of y.space.report)) → TellsPrinted task.counts y.space.report → HasCome task o rest r z written' replies (Paused (report_of y.space.report) ∷ h)
     came_behind z written' r may came printed tells = record {
       script = p.script;
       holds = came.holds;
       terms = came.terms ∙ paused.terms ∙ p.terms;
+      registers = p.registers;
       calls = p.calls;
       causes = follows r;
       replies = p.replies;
@@ -62,7 +65,7 @@ module _ (task : LargeTask) (o : LargeOp) (rest : List LargeOp) (x : Heap) (writ
           let few = p.pauses in
           omega (arith, same, one, few);
       made =
-          let more = called_makes y z (Paused (report_of y.space.report) ∷ h) o r paused.holds came.holds may in
+          let more = called_makes y z (Paused (report_of y.space.report) ∷ h) o r paused.holds came.holds (SCRIPT_REGISTERS, may) in
           let same = paused.made in
           let few = p.made in
           omega (arith, more, same, few);
@@ -99,6 +102,7 @@ module _ (task : LargeTask) (o : LargeOp) (rest : List LargeOp) (r : LargeReply)
     script = c.script;
     holds = c.holds;
     terms = c.terms;
+    registers = c.registers;
     calls = append_assoc (called_in k) (o ∷ []) rest ∙ c.calls;
     causes = unasked_owe_nothing task.terms k o r c.causes (asks_none o none);
     replies = ap (λ (rs : List LargeReply). rs ++ r ∷ []) c.replies;
@@ -119,6 +123,7 @@ module _ (task : LargeTask) (o : LargeOp) (rest : List LargeOp) (r : LargeReply)
       script = c.script;
       holds = paused.holds;
       terms = paused.terms ∙ c.terms;
+      registers = c.registers;
       calls = append_assoc (called_in k) (o ∷ []) rest ∙ c.calls;
       causes = followed;
       replies = ap (λ (rs : List LargeReply). rs ++ r ∷ []) c.replies;

@@ -17,6 +17,7 @@ use Rattle.lxr_model.specs.Full.{LeaveNoRun}
 use Rattle.lxr_model.specs.Moments.{Moment}
 use Rattle.lxr_full.specs.Room.{HasWorld}
 use Rattle.lxr_full.proofs.RoomLemmas.{all_leave_no_run}
+use Rattle.lxr_text_script.specs.declared.TheConstants.{SCRIPT_REGISTERS}
 use Rattle.lxr_large_model.specs.declared.LargeOp.{LargeOp}
 use Rattle.lxr_large_model.specs.declared.LargeOp.TheVariants as large_op
 use Rattle.lxr_large_model.specs.Full.{LargeTerms, LeaveNoBlocks, LeaveNoLines, body_slots, kept_names}
@@ -79,7 +80,7 @@ blocks_none x h is k some none =
     subst (λ t. x.bodies.blocks / k ≤ t) sums left
 
 -- so a pause that collects is made for what finds no place
-room_made : (x : Heap) (h : List LargeItem) → IsHeapOf x h → (o : LargeOp) → MayBeCalled o → FindsNoPlace x o → IsMadeFor (terms_of x) h kind.Collect o
+room_made : (x : Heap) (h : List LargeItem) → IsHeapOf x h → (o : LargeOp) → MayBeCalled SCRIPT_REGISTERS o → FindsNoPlace x o → IsMadeFor (terms_of x) h kind.Collect o
 room_made x h is (large_op.Small (op.New dest shape)) may full = lines_none x h is shape full
 room_made x h is (large_op.Big dest blocks) may (inl full) = inl (lines_none x h is handle full)
 room_made x h is (large_op.Big dest blocks) may (inr none) = inr (blocks_none x h is blocks may.1 none)
@@ -100,6 +101,6 @@ log_made terms x h is o log = absurd log
 -- ---- a pause that is wanted
 
 -- it is made for the operation
-pub wanted_made : (terms : LargeTerms) (x : Heap) (h : List LargeItem) → IsHeapOf x h → (o : LargeOp) (collect : Bool) → MayBeCalled o → terms_of x ≡ terms → WantsPause x h o collect → IsMadeFor terms h (kind_asked collect) o
+pub wanted_made : (terms : LargeTerms) (x : Heap) (h : List LargeItem) → IsHeapOf x h → (o : LargeOp) (collect : Bool) → MayBeCalled SCRIPT_REGISTERS o → terms_of x ≡ terms → WantsPause x h o collect → IsMadeFor terms h (kind_asked collect) o
 wanted_made terms x h is o true may same none = subst (λ t. IsMadeFor t h kind.Collect o) same (room_made x h is o may none)
 wanted_made terms x h is o false may same log = log_made terms x h is o log

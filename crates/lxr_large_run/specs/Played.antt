@@ -4,6 +4,7 @@ use Rattle.lxr_layout.specs.declared.Name.{Name}
 use Rattle.lxr_graph.specs.Names.{has}
 use Rattle.lxr_image.specs.declared.space.Space.{Space}
 use Rattle.lxr_image.specs.Opened.{no_tally}
+use Rattle.lxr_text_script.specs.declared.TheConstants.{SCRIPT_REGISTERS}
 use Rattle.lxr_text_stream.specs.Streams.{Appends, AppendsFront}
 use Rattle.lxr_model.specs.Reachable.{Reachable}
 use Rattle.lxr_invariant.specs.Quiescent.{IsQuiescent}
@@ -16,10 +17,10 @@ use Rattle.lxr_large_text.specs.Texts.{large_run_text}
 use Rattle.lxr_large_run.specs.declared.LargeRun.{LargeRun}
 use Rattle.lxr_large_run.specs.Playing.{IsCutEarly, LargeTask, TellsPrinted}
 
--- A run that is ready: its heap has no history yet, of these blocks and of these for bodies, its script is one that can be read, and there is
+-- A run that is ready: its heap has no history yet, of these blocks, of these for bodies and of the registers of scripts, its script is one that can be read, and there is
 -- room for each reply.
 pub record IsReady (run : LargeRun) (blocks bodies : ℕ) : Type 0 where
-  pub opened : IsOpenedHeap run.heap blocks bodies
+  pub opened : IsOpenedHeap run.heap blocks bodies SCRIPT_REGISTERS
   pub script : IsLargeScript run.operations.items
   pub none : run.replies.items ≡ []
   pub room : length run.operations.items + 1 ≤ run.replies.room
@@ -29,7 +30,7 @@ pub record IsReady (run : LargeRun) (blocks bodies : ℕ) : Type 0 where
 pub record IsLeftByLarge (terms : LargeTerms) (h : List LargeItem) (space : Space) : Type 0 where
   pub at : Name → ℕ
   pub between : IsQuiescent space (abstract_after h at)
-  pub limits : space.limits ≡ limits_of terms.blocks
+  pub limits : space.limits ≡ limits_of terms.blocks terms.registers
   pub tally : space.tally ≡ record no_tally { pauses = space.pauses }
   pub state : (large_moment h).state ≡ (large_state h).small
   pub reachable : (n : Name) → IsTrue (has (large_moment h).unreclaimed n) ↔ Reachable (large_moment h).state n

@@ -1,6 +1,7 @@
 -- How far a script with large objects was played: what holds between its operations, and right behind a call.
 use Rattle.std.specs.Prelude.{◌≡◌, ℕ, ◌+◌, ◌*◌, ◌≤◌, ◌&&◌, not, Bool, Option, List, [], ◌∷◌, ◌++◌, length}
 use Rattle.lxr_graph.specs.declared.report.Report.{Report}
+use Rattle.lxr_text_script.specs.declared.TheConstants.{SCRIPT_REGISTERS}
 use Rattle.lxr_text_stream.specs.Streams.{Appends, AppendsFront}
 use Rattle.lxr_text_print.specs.Reports.{is_plain}
 use Rattle.lxr_one_pause.specs.Telling.{TellsWanted}
@@ -15,6 +16,10 @@ use Rattle.lxr_heap.specs.Holding.{IsHeapOf, terms_of}
 use Rattle.lxr_large_text.specs.Histories.{EndsAtPause, IsLargeSoFar, called_in, replied_in, with_end}
 use Rattle.lxr_large_text.specs.Texts.{large_reports_text}
 use Rattle.lxr_heap.specs.Acting.{WantsPause}
+
+-- what a script is played on: so many blocks, so many for bodies, and the registers of scripts
+abbrev pub large_terms : ℕ → ℕ → LargeTerms
+large_terms blocks bodies = record { blocks = blocks; bodies = bodies; registers = SCRIPT_REGISTERS }
 
 -- What playing begins with: how many blocks there are, whether counts are printed, the operations of the script, and what was written before it,
 -- where it is told.
@@ -34,6 +39,7 @@ pub record IsPlaying (task : LargeTask) (rest : List LargeOp) (x : Heap) (writte
   pub script : IsLargeScript task.operations
   pub holds : IsHeapOf x h
   pub terms : terms_of x ≡ task.terms
+  pub registers : task.terms.registers ≡ SCRIPT_REGISTERS
   pub calls : called_in h ++ rest ≡ with_end task.operations
   pub causes : PausesHaveCauses task.terms [] h
   pub replies : replied_in h ≡ kept
@@ -48,6 +54,7 @@ pub record HasCome (task : LargeTask) (o : LargeOp) (rest : List LargeOp) (r : L
   pub script : IsLargeScript task.operations
   pub holds : IsHeapOf x (Called o r ∷ k)
   pub terms : terms_of x ≡ task.terms
+  pub registers : task.terms.registers ≡ SCRIPT_REGISTERS
   pub calls : called_in k ++ o ∷ rest ≡ with_end task.operations
   pub causes : PausesHaveCauses task.terms (Called o r ∷ []) k
   pub replies : replied_in k ≡ kept

@@ -9,6 +9,7 @@ ghost use Rattle.std.specs.Prelude.{◌≡◌, ℕ, ◌≤◌, IfErr, IfOk, OnEr
 ghost use Rattle.lxr_text_stream.specs.Streams.{Rose};
 ghost use Rattle.lxr_large_text.specs.Limits.{IsLargeScript};
 ghost use Rattle.lxr_large_run.specs.Played.{IsCutOff, IsPlayed, IsReady};
+ghost use Rattle.lxr_large_run.specs.Playing.{large_terms};
 
 mod playing;
 
@@ -17,6 +18,7 @@ use lxr_heap::LargeHeap;
 use lxr_image::Space;
 use lxr_large_model::LargeReply;
 use lxr_large_text::{LargeOperations, print_large};
+use lxr_text_script::SCRIPT_REGISTERS;
 use lxr_text_stream::{Sink, WriteError};
 use playing::play_all;
 use std::alloc::{AllocError, Global};
@@ -42,7 +44,7 @@ pub fn open_large(
     ensures ready { IfOk result (λ run. IsReady run blocks bodies) }
     ensures script { IfOk result (λ run. run.operations ≡ operations) }
 {
-    let heap = LargeHeap::open(alloc, blocks, bodies)?;
+    let heap = LargeHeap::open(alloc, blocks, bodies, SCRIPT_REGISTERS)?;
     let replies = Listed::with_room(alloc, operations.len() + 1)?;
     Ok(LargeRun {
         heap,
@@ -56,9 +58,9 @@ pub fn open_large(
 pub fn play_large<O: Sink>(run: LargeRun, counts: bool, output: &mut O) -> Result<Space, WriteError>
     requires ready { (blocks : ℕ) × (bodies : ℕ) × IsReady run blocks bodies }
     ensures done { IfOk result (λ space. (blocks bodies : ℕ) → IsReady run blocks bodies
-        → IsPlayed (record { terms = record { blocks = blocks; bodies = bodies }; counts = counts; operations = run.operations.items; written = O.written output.old }) (O.written output.new) space) }
+        → IsPlayed (record { terms = large_terms blocks bodies; counts = counts; operations = run.operations.items; written = O.written output.old }) (O.written output.new) space) }
     ensures cut_off { OnErr result ((blocks bodies : ℕ) → IsReady run blocks bodies
-        → IsCutOff (record { terms = record { blocks = blocks; bodies = bodies }; counts = counts; operations = run.operations.items; written = O.written output.old }) (O.written output.new)) }
+        → IsCutOff (record { terms = large_terms blocks bodies; counts = counts; operations = run.operations.items; written = O.written output.old }) (O.written output.new)) }
     ensures faults { O.faults output.old ≤ O.faults output.new }
     ensures cause { result ≡ Err WriteError.Fault → Rose (O.faults output.old) (O.faults output.new) }
 {

@@ -1,6 +1,7 @@
 //! The operations of a script, one by one, with the pauses before and behind them.
 ghost use Rattle.std.specs.Prelude.{◌≡◌, ℕ, ◌+◌, ◌-◌, ◌^◌, ◌<◌, ◌≤◌, [], ◌∷◌, List, IfOk, OnErr, OnOk, length};
 ghost use Rattle.lxr_graph.specs.History.{report_of};
+ghost use Rattle.lxr_text_script.specs.declared.TheConstants.{SCRIPT_REGISTERS};
 ghost use Rattle.lxr_text_print.specs.Reports.{report_text};
 ghost use Rattle.lxr_text_stream.specs.Streams.{Appends, AppendsFront, Rose};
 ghost use Rattle.lxr_large_model.specs.declared.LargeOp.{LargeOp as LargeOpOf};
@@ -55,7 +56,7 @@ fn pause<O: Sink>(
 /// Does an operation that wants no pause before it.
 fn act_behind(heap: &mut LargeHeap, op: LargeOp) -> LargeReply
     requires made { heap.old.made < 2 ^ 32 - 1 }
-    requires op { MayBeCalled op }
+    requires op { MayBeCalled heap.old.space.limits.registers op }
     requires ready { (h : List LargeItem) × WantsNoPause heap.old h op }
     ensures { (h : List LargeItem) → WantsNoPause heap.old h op → IsReplied heap.old heap.new h op result }
 {
@@ -74,7 +75,7 @@ fn act_after_pause<O: Sink>(
     counts: bool,
     output: &mut O,
 ) -> Result<LargeReply, WriteError>
-    requires op { MayBeCalled op }
+    requires op { MayBeCalled SCRIPT_REGISTERS op }
     requires wants { SomeWantsPause counts op collect heap.old (O.written output.old) replies.now.items }
     ensures ok { IfOk result (λ reply. (task : LargeTask) → task.counts ≡ counts → (rest : List LargeOpOf) (h : List LargeItem) → IsPlaying task (op ∷ rest) heap.old (O.written output.old) replies.now.items h
         → WantsPause heap.old h op collect → (k : List LargeItem) × HasCome task op rest reply heap.new (O.written output.new) replies.now.items k) }
@@ -95,7 +96,7 @@ fn act<O: Sink>(
     counts: bool,
     output: &mut O,
 ) -> Result<LargeReply, WriteError>
-    requires op { MayBeCalled op }
+    requires op { MayBeCalled SCRIPT_REGISTERS op }
     requires playing { SomeIsPlaying counts op heap.old (O.written output.old) replies.now.items }
     ensures ok { IfOk result (λ reply. (task : LargeTask) → task.counts ≡ counts → (rest : List LargeOpOf) (h : List LargeItem) → IsPlaying task (op ∷ rest) heap.old (O.written output.old) replies.now.items h
         → (k : List LargeItem) × HasCome task op rest reply heap.new (O.written output.new) replies.now.items k) }
@@ -130,7 +131,7 @@ fn play_one<O: Sink>(
     counts: bool,
     output: &mut O,
 ) -> Result<(), WriteError>
-    requires op { MayBeCalled op }
+    requires op { MayBeCalled SCRIPT_REGISTERS op }
     requires room { length replies.old.items < replies.old.room }
     requires playing { SomeIsPlaying counts op heap.old (O.written output.old) replies.old.items }
     ensures ok { OnOk result ((task : LargeTask) → task.counts ≡ counts → (rest : List LargeOpOf) (h : List LargeItem) → IsPlaying task (op ∷ rest) heap.old (O.written output.old) replies.old.items h

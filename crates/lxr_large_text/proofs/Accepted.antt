@@ -15,7 +15,7 @@ use Rattle.lxr_text_script.specs.Lines.{Text, Line, end_from, items_from}
 use Rattle.lxr_text_script.specs.Operations.{Read, ◌>>=◌, number_at, operation_of, register_at}
 use Rattle.lxr_text_script.specs.Reading.{Gives, are, nothing_after}
 use Rattle.lxr_text_script.specs.declared.TheConstants.{MOST_BYTES}
-use Rattle.lxr_text_script.proofs.Accepted.{any, below, number_read, operation_fits, operation_read, register_read, tested, then_fits}
+use Rattle.lxr_text_script.proofs.Accepted.{any, number_read, operation_fits, operation_read, register_read, tested, then_fits}
 use Rattle.lxr_large_model.specs.declared.TheConstants.{MOST_BODY_BLOCKS, MOST_BODY_INDEX}
 use Rattle.lxr_large_model.specs.declared.LargeOp.{LargeOp}
 use Rattle.lxr_large_model.specs.declared.LargeOp.TheVariants as op
@@ -40,7 +40,7 @@ big_read n (a ∷ []) = tt
 big_read n (a ∷ b ∷ []) =
     then_fits (IsRegister a) IsLargeOperation (register_at n a) _ (register_read n a) (λ dest a_is.
     then_fits (λ k. (1 ≤ k) × (k ≤ MOST_BODY_BLOCKS)) IsLargeOperation (blocks_at n b) _ (blocks_read n b) (λ blocks b_is.
-    record { well_formed = (below a_is, b_is.0, b_is.1); written = tt; first = tt }))
+    record { well_formed = (a_is.small, b_is.0, b_is.1); written = tt; first = tt }))
 big_read n (a ∷ b ∷ d ∷ words) = tt
 
 put_read : (n : ℕ) (words : List Text) → IfOk (put_of n words) IsLargeOperation
@@ -52,7 +52,7 @@ put_read n (a ∷ b ∷ c ∷ []) =
     then_fits (IsRegister a) IsLargeOperation (register_at n a) _ (register_read n a) (λ base a_is.
     then_fits (λ k. k ≤ MOST_BODY_INDEX) IsLargeOperation (body_index_at n b) _ (index_read n b) (λ index b_is.
     then_fits (IsNumber c) IsLargeOperation (number_at n c) _ (number_read n c) (λ value c_is.
-    record { well_formed = below a_is; written = (b_is, c_is.small); first = tt })))
+    record { well_formed = a_is.small; written = (b_is, c_is.small); first = tt })))
 put_read n (a ∷ b ∷ c ∷ d ∷ words) = tt
 
 get_read : (n : ℕ) (words : List Text) → IfOk (get_of n words) IsLargeOperation
@@ -62,7 +62,7 @@ get_read n (a ∷ []) = tt
 get_read n (a ∷ b ∷ []) =
     then_fits (IsRegister a) IsLargeOperation (register_at n a) _ (register_read n a) (λ base a_is.
     then_fits (λ k. k ≤ MOST_BODY_INDEX) IsLargeOperation (body_index_at n b) _ (index_read n b) (λ index b_is.
-    record { well_formed = below a_is; written = b_is; first = tt }))
+    record { well_formed = a_is.small; written = b_is; first = tt }))
 get_read n (a ∷ b ∷ d ∷ words) = tt
 
 -- what is spelled in the first version is one of its operations

@@ -3,3 +3,4 @@ pub mod Places
 pub mod Runs
 pub mod Spaces
 pub mod Numbers
+pub mod Registers

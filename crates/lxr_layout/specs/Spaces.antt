@@ -1,16 +1,17 @@
 -- How large a space is, and where its regions begin.
 use Rattle.std.specs.Prelude.{ℕ, ◌+◌, ◌*◌, ◌/◌, ◌≤◌, List, [], ◌∷◌, take, sum}
-use Rattle.lxr_layout.specs.declared.TheConstants.{COUNT_WORDS_IN_BLOCK, MOST_BLOCKS, WORDS_IN_BLOCK}
+use Rattle.lxr_layout.specs.declared.TheConstants.{COUNT_WORDS_IN_BLOCK, MOST_BLOCKS, REGISTERS, WORDS_IN_BLOCK}
 use Rattle.lxr_layout.specs.declared.limits.Limits.{Limits}
 use Rattle.lxr_layout.specs.declared.limits.Regions.{Regions}
 
--- 1 to 65,536 blocks, 1 to 255 threads, logs of 1 to 65,536 entries, a remembered set of 1 to 1,048,576, and at most an eighth of the
--- blocks chosen for evacuation
+-- 1 to 65,536 blocks, 1 to 255 threads, logs of 1 to 65,536 entries, a remembered set of 1 to 1,048,576, 16 to 256 registers that a
+-- thread may name, and at most an eighth of the blocks chosen for evacuation
 pub record AreLimits (l : Limits) : Type 0 where
   pub blocks : (1 ≤ l.blocks) × (l.blocks ≤ MOST_BLOCKS)
   pub threads : (1 ≤ l.threads) × (l.threads ≤ 255)
   pub log : (1 ≤ l.log) × (l.log ≤ 65536)
   pub remember : (1 ≤ l.remember) × (l.remember ≤ 1048576)
+  pub registers : (16 ≤ l.registers) × (l.registers ≤ REGISTERS)
   pub evacuate : l.evacuate ≤ l.blocks / 8
 
 -- ---- the number of each region, in their order
@@ -83,7 +84,7 @@ all_regions = 15
 -- outs, states, runs, frees, decrements, remembered, cursors
 abbrev pub region_sizes : Limits → List ℕ
 region_sizes l = WORDS_IN_BLOCK * l.blocks ∷ COUNT_WORDS_IN_BLOCK * l.blocks ∷ 32 * l.blocks ∷ 32 * l.blocks ∷ 32 * l.blocks ∷ 32 * l.blocks ∷ 64 * l.blocks ∷ 64 * l.blocks
-    ∷ 2 * l.blocks ∷ l.blocks ∷ 64 * l.blocks ∷ l.blocks ∷ l.threads * (l.log + 16) ∷ l.remember ∷ 16 ∷ []
+    ∷ 2 * l.blocks ∷ l.blocks ∷ 64 * l.blocks ∷ l.blocks ∷ l.threads * (l.log + l.registers) ∷ l.remember ∷ 16 ∷ []
 
 -- the first word of a region, by its number: the sum of the sizes of those before it
 abbrev pub region_begin : Limits → ℕ → ℕ

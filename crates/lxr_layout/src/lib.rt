@@ -21,6 +21,9 @@ pub use limits::{Limits, Regions};
 pub use runs::{LogEntry, Run, entry_of, entry_word, kept_counter, run_of, run_word};
 pub use spaces::regions;
 
+/// The registers of a thread, whose names are bytes. How many of them a thread of a heap may name is one of its limits.
+pub const REGISTERS: usize = 256;
+
 /// The words of a block of 32 KB.
 pub const WORDS_IN_BLOCK: u32 = 4096;
 

@@ -23,7 +23,7 @@ pub fn regions(limits: Limits) -> Regions
     let runs = states + blocks;
     let frees = runs + 64 * blocks;
     let decs = frees + blocks;
-    let remembered = decs + u32::from(limits.threads) * (limits.log + 16);
+    let remembered = decs + u32::from(limits.threads) * (limits.log + u32::from(limits.registers));
     let cursors = remembered + limits.remember;
     Regions {
         heap: 0,

@@ -1,8 +1,9 @@
 -- What holds of each moment of a legal history, by induction on the history: what was reachable at the last pause is
 -- unreclaimed, what is reachable now was so there or was made since, and so nothing that a pause reclaims is reachable.
-use Rattle.std.proofs.Common.{◌≡◌, ℕ, zero, suc, ◌+◌, ◌<◌, ◌≤◌, refl, sym, ap, subst, ◌∙◌, inl, inr, ◌⊎◌, arith, Bool, true, false, List, [], ◌∷◌, IsTrue, length}
+use Rattle.std.proofs.Common.{◌≡◌, ℕ, zero, suc, ◌+◌, ◌-◌, ◌<◌, ◌≤◌, refl, sym, ap, subst, ◌∙◌, inl, inr, ◌⊎◌, arith, Bool, true, false, List, [], ◌∷◌, IsTrue, length}
 use Rattle.std.specs.Prelude.{Option, Some, None}
 use Rattle.std.proofs.lemmas.List.{length-replicate}
+use Rattle.lxr_layout.specs.declared.TheConstants.{REGISTERS}
 use Rattle.lxr_layout.specs.declared.Name.{Name}
 use Rattle.lxr_graph.specs.declared.Op.{Op}
 use Rattle.lxr_graph.specs.declared.Op.TheVariants as op
@@ -63,7 +64,7 @@ opening_holds (suc t) n g = elim (gets-append (opening_registers t) opening_row 
   where
     in_row : (n : Name) → Gets opening_row (Some n) → world_name ≡ n
     in_row n (zero, e) = cc
-    in_row n (suc i, e) = let nil : None ≡ Some n = gets-replicate 15 None (Some n) (i, e) in absurd (cc)
+    in_row n (suc i, e) = let nil : None ≡ Some n = gets-replicate (REGISTERS - 1) None (Some n) (i, e) in absurd (cc)
 
 opening_reach : (threads : ℕ) (n : Name) → Reachable (opening threads) n → world_name ≡ n
 opening_reach threads n the_world = refl

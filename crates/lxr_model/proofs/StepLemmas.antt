@@ -2,6 +2,7 @@
 -- reachable object referred to, or the new name, whose object refers to nothing.
 use Rattle.std.proofs.Common.{◌≡◌, ℕ, zero, suc, ◌+◌, ◌-◌, ◌*◌, ◌%◌, ◌^◌, ◌<◌, refl, sym, ap, subst, ◌∙◌, inl, inr, ◌⊎◌, true, false, cond, List, [], ◌∷◌, ◌++◌, length, take, drop}
 use Rattle.std.specs.Prelude.{Option, Some, None, slice_get, slice_set, slice_index_or, replicate}
+use Rattle.lxr_layout.specs.declared.TheConstants.{REGISTERS}
 use Rattle.lxr_layout.specs.declared.Name.{Name}
 use Rattle.lxr_layout.specs.declared.Shape.{Shape}
 use Rattle.lxr_graph.specs.declared.Op.TheVariants as op
@@ -243,12 +244,12 @@ keeps_make s t dest shape h = reach_step s (with_register (record s { graph = wi
 
 held_cleared : (rs : List (Option Name)) (t : ℕ) (n : Name) → Gets (cleared rs t) (Some n) → Gets rs (Some n)
 held_cleared rs t n g =
-    elim (gets-append (take (16 * (t - 1)) rs ++ replicate 16 None) (drop (16 * (t - 1) + 16) rs) (Some n) g) [
-      | inl h ↦ elim (gets-append (take (16 * (t - 1)) rs) (replicate 16 None) (Some n) h) [
-        | inl k ↦ gets-take (16 * (t - 1)) rs (Some n) k
-        | inr k ↦ let nil : None ≡ Some n = gets-replicate 16 None (Some n) k in absurd (cc)
+    elim (gets-append (take (REGISTERS * (t - 1)) rs ++ replicate REGISTERS None) (drop (REGISTERS * (t - 1) + REGISTERS) rs) (Some n) g) [
+      | inl h ↦ elim (gets-append (take (REGISTERS * (t - 1)) rs) (replicate REGISTERS None) (Some n) h) [
+        | inl k ↦ gets-take (REGISTERS * (t - 1)) rs (Some n) k
+        | inr k ↦ let nil : None ≡ Some n = gets-replicate REGISTERS None (Some n) k in absurd (cc)
       ]
-      | inr h ↦ gets-drop (16 * (t - 1) + 16) rs (Some n) h
+      | inr h ↦ gets-drop (REGISTERS * (t - 1) + REGISTERS) rs (Some n) h
     ]
 
 pub step_reaches : StepReachesNewName

@@ -1,5 +1,6 @@
 -- When the names of all that is left may be renewed, and what holds of the moment that a history then begins with anew.
 use Rattle.std.specs.Prelude.{◌≡◌, ℕ, ◌+◌, ◌*◌, true, Some, None, List, [], ◌∷◌, IsTrue, length}
+use Rattle.lxr_layout.specs.declared.TheConstants.{REGISTERS}
 use Rattle.lxr_layout.specs.declared.Name.{Name}
 use Rattle.lxr_graph.specs.Names.{AreInOrder, has}
 use Rattle.lxr_graph.specs.State.{Graph, HasObject, Object, object_at, shape_of, world, world_name}
@@ -17,9 +18,9 @@ WorldHasShape g = (o : Object) × (object_at g world_name ≡ Some o) × (shape_
 pub record IsStart (threads : ℕ) (m : Moment) : Type 0 where
   -- nothing was done since the last pause
   pub rests : m.last ≡ m.state
-  -- there are a row of the graph and sixteen registers for each thread, and the world
+  -- there are a row of the graph and 256 registers for each thread, and the world
   pub rows : length m.state.graph ≡ threads + 1
-  pub registers : length m.state.registers ≡ 16 * threads
+  pub registers : length m.state.registers ≡ REGISTERS * threads
   pub world : WorldHasShape m.state.graph
   -- the unreclaimed names are the world's, what registers hold and what these refer to, and maybe more; each has its object
   pub closed : IsClosed m.state (has m.unreclaimed)

@@ -4,6 +4,7 @@ use Rattle.std.proofs.Common.{◌≡◌, ℕ, zero, suc, ◌+◌, ◌-◌, ◌*�
 use Rattle.std.specs.Prelude.{false, Option, Some, None, is_some, slice_get}
 use Rattle.std.proofs.lemmas.Bool.{false_from_ne_true}
 use Rattle.std.proofs.lemmas.List.{length-append}
+use Rattle.lxr_layout.specs.declared.TheConstants.{REGISTERS}
 use Rattle.lxr_layout.specs.declared.Name.{Name}
 use Rattle.lxr_graph.specs.declared.Op.{Op}
 use Rattle.lxr_graph.specs.declared.Op.TheVariants as op
@@ -60,7 +61,7 @@ unreclaimed_object m follows n h = let a = follows.objects n h in ap is_some a.3
 opening_good : (threads : ℕ) → GoodAt threads (opening_moment threads)
 opening_good threads = good_history (record { threads = threads; blocks = 0; evacuate = 0; every = 0; log = 0; trace = 0; within = 0; renews = false }) [] tt
 
-length-opening : (threads : ℕ) → length (opening_registers threads) ≡ 16 * threads
+length-opening : (threads : ℕ) → length (opening_registers threads) ≡ REGISTERS * threads
 length-opening zero = refl
 length-opening (suc t) = let e = length-append (opening_registers t) opening_row in let k = length-opening t in omega (arith, e, k)
 
@@ -68,7 +69,7 @@ pub opening_follows : OpeningFollows
 opening_follows threads =
     let good = opening_good threads in
     let rows : length (opening threads).graph ≡ threads + 1 = good.rows in
-    let registers : length (opening threads).registers ≡ 16 * (length (opening threads).graph - 1) = let e = length-opening threads in omega (arith, e, rows) in
+    let registers : length (opening threads).registers ≡ REGISTERS * (length (opening threads).graph - 1) = let e = length-opening threads in omega (arith, e, rows) in
     record {
       unreclaimed = in_order-one world_name;
       made = in_order-none;

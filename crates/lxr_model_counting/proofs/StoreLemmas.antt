@@ -3,6 +3,7 @@ use Rattle.std.proofs.Common.{◌≡◌, ℕ, ◌+◌, ◌-◌, ◌*◌, ◌%◌
 use Rattle.std.specs.Prelude.{Option, Some, None, is_some, slice_get, slice_set, replicate}
 use Rattle.std.proofs.lemmas.List.{length-set, length-take, length-drop, length-append}
 use Rattle.std.proofs.lemmas.Option.{slice_get_within}
+use Rattle.lxr_layout.specs.declared.TheConstants.{REGISTERS}
 use Rattle.lxr_layout.specs.declared.Name.{Name}
 use Rattle.lxr_layout.specs.declared.Shape.{Shape}
 use Rattle.lxr_graph.specs.declared.Op.{Op}
@@ -184,15 +185,15 @@ make_keeps s t dest shape h =
       registers = length-set _ _ _;
     }
 
-length-cleared : (rs : List (Option Name)) (t : ℕ) → 16 * (t - 1) + 16 ≤ length rs → length (cleared rs t) ≡ length rs
+length-cleared : (rs : List (Option Name)) (t : ℕ) → REGISTERS * (t - 1) + REGISTERS ≤ length rs → length (cleared rs t) ≡ length rs
 length-cleared rs t room =
-    let a = length-append (take (16 * (t - 1)) rs ++ replicate 16 None) (drop (16 * (t - 1) + 16) rs) in
-    let b = length-append (take (16 * (t - 1)) rs) (replicate 16 None) in
-    let c = length-take (16 * (t - 1)) rs in
-    let d = length-drop (16 * (t - 1) + 16) rs in
+    let a = length-append (take (REGISTERS * (t - 1)) rs ++ replicate REGISTERS None) (drop (REGISTERS * (t - 1) + REGISTERS) rs) in
+    let b = length-append (take (REGISTERS * (t - 1)) rs) (replicate REGISTERS None) in
+    let c = length-take (REGISTERS * (t - 1)) rs in
+    let d = length-drop (REGISTERS * (t - 1) + REGISTERS) rs in
     omega (arith, a, b, c, d)
 
-pub step_keeps : (s : State) (t : ℕ) (o : Op) → t < length s.graph → 16 * (t - 1) + 16 ≤ length s.registers → StepKeeps s t o (step s t o)
+pub step_keeps : (s : State) (t : ℕ) (o : Op) → t < length s.graph → REGISTERS * (t - 1) + REGISTERS ≤ length s.registers → StepKeeps s t o (step s t o)
 step_keeps s t (op.New dest shape) h room = make_keeps s t dest shape h
 step_keeps s t (op.Load dest base index) h room = load_keeps s t dest index (op.Load dest base index) (register_at s t base) (λ r n j w. w)
 step_keeps s t (op.Store base index source) h room = store_keeps s t base index source _ refl

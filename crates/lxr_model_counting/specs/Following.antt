@@ -1,5 +1,6 @@
 -- How the state now follows the one at the last pause: all that operations between two pauses keep.
 use Rattle.std.specs.Prelude.{◌≡◌, ℕ, ◌-◌, ◌*◌, ◌<◌, ◌≤◌, ◌⊎◌, false, None, Some, IsTrue, length, slice_get}
+use Rattle.lxr_layout.specs.declared.TheConstants.{REGISTERS}
 use Rattle.lxr_layout.specs.declared.Name.{Name}
 use Rattle.lxr_graph.specs.declared.Op.{Op}
 use Rattle.lxr_graph.specs.declared.Op.TheVariants as op
@@ -58,9 +59,9 @@ pub record FollowsPause (m : Moment) : Type 0 where
       → IsTrue (has m.unreclaimed n) × Reachable m.last n × (i < length (refs_of (object_at m.last.graph n)))
   -- the graph has as many rows as it had, one for each thread and the world's
   pub rows : length m.state.graph ≡ length m.last.graph
-  -- there are sixteen registers for each thread, now and at the pause
-  pub registers : length m.state.registers ≡ 16 * (length m.state.graph - 1)
-  pub registers_were : length m.last.registers ≡ 16 * (length m.last.graph - 1)
+  -- there are 256 registers for each thread, now and at the pause
+  pub registers : length m.state.registers ≡ REGISTERS * (length m.state.graph - 1)
+  pub registers_were : length m.last.registers ≡ REGISTERS * (length m.last.graph - 1)
 
 -- the reply is that of a step, or `full` of a `new`, by a thread that there is
 abbrev pub IsStepReply : State → ℕ → Op → Reply → Type 0

@@ -4,6 +4,7 @@ use Rattle.std.specs.Prelude.{◌&&◌, cond, nat_eq, nat_le, nat_lt, if◌then�
 use Rattle.std.specs.List.{count_by}
 use Rattle.std.proofs.lemmas.List.{length-map, map-append}
 use Rattle.std.proofs.lemmas.List.Sums.{sum_by-cons}
+use Rattle.lxr_layout.specs.declared.TheConstants.{REGISTERS}
 use Rattle.lxr_layout.specs.Places.{first_word, place_in}
 use Rattle.lxr_layout.specs.declared.Name.{Name}
 use Rattle.lxr_layout.specs.declared.Place.{Place}
@@ -110,7 +111,7 @@ based_so : (m : Mutating) (base : Place) → Follows (based m base) (based (with
 based_so m base = chosen (nat_eq base.0 0) _ _ _ _ (done_so m reply.Bad) (follows refl refl)
 
 ended_so : (m : Mutating) → Follows (ended m) (ended (without_names m))
-ended_so m = follows refl (ap (λ items. record m { names = false; registers = replicate 16 nil; replies = record m.replies { items = items }; phase = phase.Finished; end = Some ends.Ended })
+ended_so m = follows refl (ap (λ items. record m { names = false; registers = replicate REGISTERS nil; replies = record m.replies { items = items }; phase = phase.Finished; end = Some ends.Ended })
     (sym (map-append blank m.replies.items (reply.Ended ∷ []))))
 
 started_so : (m : Mutating) (o : Op) → Follows (started m o) (started (without_names m) o)
@@ -286,7 +287,7 @@ order_by m o false = refl
 
 pub orders_without_names : MutatorsTakeOrdersWithoutNames
 orders_without_names m o =
-    ap (λ n. order_of (without_names m) o (is_ready m.phase && (nat_le (length m.operations) n && (is_operation o && has_room_for_order m)))) (length-map m.replies.items blank)
+    ap (λ n. order_of (without_names m) o (is_ready m.phase && (nat_le (length m.operations) n && (is_operation m.width o && has_room_for_order m)))) (length-map m.replies.items blank)
     ∙ order_by m o (takes_order m o)
 
 -- an end without names is no other
@@ -300,7 +301,7 @@ count_same m = sym (length-map m.replies.items blank)
 
 so_without : (m : Mutating) → IsMutator m → IsMutator (without_names m)
 so_without m is = record {
-  setup = record { thread = is.setup.thread; operations = is.setup.operations; few = is.setup.few; room = is.setup.room; most = is.setup.most; indexes = is.setup.indexes; every = is.setup.every; before = is.setup.before };
+  setup = record { thread = is.setup.thread; width = is.setup.width; operations = is.setup.operations; few = is.setup.few; room = is.setup.room; most = is.setup.most; indexes = is.setup.indexes; every = is.setup.every; before = is.setup.before };
   registers = is.registers;
   spans = is.spans;
   few_replies = subst (λ n. n ≤ length m.operations + 1) (count_same m) is.few_replies;
@@ -316,7 +317,7 @@ so_without m is = record {
 
 so_with : (m : Mutating) → IsMutator (without_names m) → IsMutator m
 so_with m is = record {
-  setup = record { thread = is.setup.thread; operations = is.setup.operations; few = is.setup.few; room = is.setup.room; most = is.setup.most; indexes = is.setup.indexes; every = is.setup.every; before = is.setup.before };
+  setup = record { thread = is.setup.thread; width = is.setup.width; operations = is.setup.operations; few = is.setup.few; room = is.setup.room; most = is.setup.most; indexes = is.setup.indexes; every = is.setup.every; before = is.setup.before };
   registers = is.registers;
   spans = is.spans;
   few_replies = subst (λ n. n ≤ length m.operations + 1) (sym (count_same m)) is.few_replies;

@@ -1,5 +1,5 @@
 -- A mutator takes an order exactly where it may, and is a mutator again.
-use Rattle.std.proofs.Common.{◌≡◌, ◌≢◌, ◌+◌, ◌<◌, ◌≤◌, [], ◌∷◌, Bool, true, false, arith, refl, sym, subst, inl, inr, length}
+use Rattle.std.proofs.Common.{◌≡◌, ◌≢◌, ℕ, ◌+◌, ◌<◌, ◌≤◌, [], ◌∷◌, Bool, true, false, arith, refl, sym, subst, inl, inr, length}
 use Rattle.std.specs.Prelude.{◌&&◌, Decides, if◌then◌else◌}
 use Rattle.std.proofs.lemmas.Bool.{le-leb, leb-true}
 use Rattle.std.proofs.lemmas.Bool.Decides.{Decides-and, Decides-like, Decides-ltb}
@@ -7,8 +7,8 @@ use Rattle.std.proofs.lemmas.List.{length-append}
 use Rattle.std.proofs.lemmas.List.Elements.{All-append, All-cons, All-nil}
 use Rattle.lxr_graph.specs.declared.Op.{Op}
 use Rattle.lxr_graph.specs.declared.Op.TheVariants as op
-use Rattle.lxr_graph.specs.Forms.{is_well_formed}
-use Rattle.lxr_graph.proofs.FormLemmas.{well_formed}
+use Rattle.lxr_graph.specs.Forms.{is_formed_for}
+use Rattle.lxr_graph.proofs.FormLemmas.{formed_for}
 use Rattle.lxr_mutator.specs.declared.phases.MutatorPhase.{MutatorPhase}
 use Rattle.lxr_mutator.specs.declared.phases.MutatorPhase.TheVariants as phase
 use Rattle.lxr_mutator.specs.Mutating.{Mutating}
@@ -24,12 +24,12 @@ ready_decides phase.Ready = (λ e. refl, λ h. refl)
 ready_decides p = (λ e. absurd (cc), λ h. absurd (cc))
 
 -- an operation that is no end is one where it is well formed
-endless : (o : Op) → o ≢ op.End → Decides (is_well_formed o) (IsOperation o)
-endless o no_end = Decides-like (is_well_formed o) (λ formed. (formed, no_end)) (λ is. is.0) (well_formed o)
+endless : (width : ℕ) (o : Op) → o ≢ op.End → Decides (is_formed_for width o) (IsOperation width o)
+endless width o no_end = Decides-like (is_formed_for width o) (λ formed. (formed, no_end)) (λ is. is.0) (formed_for width o)
 
-operation_decides : (o : Op) → Decides (is_operation o) (IsOperation o)
-operation_decides op.End = (λ e. absurd (cc), λ is. absurd (is.1 refl))
-operation_decides o = endless o (λ e. absurd (cc))
+operation_decides : (width : ℕ) (o : Op) → Decides (is_operation width o) (IsOperation width o)
+operation_decides width op.End = (λ e. absurd (cc), λ is. absurd (is.1 refl))
+operation_decides width o = endless width o (λ e. absurd (cc))
 
 module _ (m : Mutating) (o : Op) where
   room_decides : Decides (has_room_for_order m) (length m.operations + 2 < m.replies.room)
@@ -43,9 +43,9 @@ module _ (m : Mutating) (o : Op) where
       Decides-like (takes_order m o)
       (λ h. record { ready = h.0; idle = h.1.0; operation = h.1.1.0; room = h.1.1.1 })
       (λ may. (may.ready, (may.idle, (may.operation, may.room))))
-      (Decides-and (is_ready m.phase) (is_idle m && (is_operation o && has_room_for_order m)) (ready_decides m.phase)
-      (Decides-and (is_idle m) (is_operation o && has_room_for_order m) idle_decides
-      (Decides-and (is_operation o) (has_room_for_order m) (operation_decides o) room_decides)))
+      (Decides-and (is_ready m.phase) (is_idle m && (is_operation m.width o && has_room_for_order m)) (ready_decides m.phase)
+      (Decides-and (is_idle m) (is_operation m.width o && has_room_for_order m) idle_decides
+      (Decides-and (is_operation m.width o) (has_room_for_order m) (operation_decides m.width o) room_decides)))
 
   -- ---- what becomes of it
 
@@ -55,7 +55,8 @@ module _ (m : Mutating) (o : Op) where
       record {
         setup = record {
           thread = is.setup.thread;
-          operations = All-append IsOperation m.operations (o ∷ []) is.setup.operations (All-cons IsOperation o [] may.operation (All-nil IsOperation));
+          width = is.setup.width;
+          operations = All-append (IsOperation m.width) m.operations (o ∷ []) is.setup.operations (All-cons (IsOperation m.width) o [] may.operation (All-nil (IsOperation m.width)));
           few = let room = may.room in let most = is.setup.most in let few = few_operations m.thread in omega (arith, more, room, most, few);
           room = let room = may.room in omega (arith, more, room);
           most = is.setup.most;

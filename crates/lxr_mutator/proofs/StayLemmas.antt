@@ -1,7 +1,6 @@
 -- Each step leaves a mutator one.
 use Rattle.std.proofs.Common.{◌≡◌, ◌≢◌, ℕ, zero, suc, ◌+◌, ◌<◌, ◌≤◌, ◌⊎◌, List, [], ◌∷◌, Bool, true, false, arith, refl, sym, subst, ap, Some, None, Option, inl, inr, length, ◌∙◌, length-append}
 use Rattle.std.specs.Prelude.{◌&&◌, IsTrue, nat_eq, nat_le, nat_lt, if◌then◌else◌, slice_set, slice_index_or}
-use Rattle.std.proofs.lemmas.List.Elements.{All-get_or}
 use Rattle.lxr_layout.specs.declared.TheConstants.{MOST_BLOCKS, MOST_GRANULES}
 use Rattle.lxr_tables.specs.Entries.{is_set}
 use Rattle.lxr_layout.specs.declared.Place.{Place}
@@ -15,7 +14,7 @@ use Rattle.lxr_graph.specs.declared.Op.{Op}
 use Rattle.lxr_graph.specs.declared.Op.TheVariants as op
 use Rattle.lxr_graph.specs.declared.Reply.{Reply}
 use Rattle.lxr_graph.specs.declared.Reply.TheVariants as reply
-use Rattle.lxr_graph.specs.Step.{IsWellFormed}
+use Rattle.lxr_graph.specs.Step.{IsFormedFor}
 use Rattle.lxr_alloc.specs.declared.Span.{Span}
 use Rattle.lxr_alloc.specs.declared.Spans.{Spans}
 use Rattle.lxr_alloc.specs.Spans.{FitsSpan, block_span, front_of, run_span, taken_from}
@@ -37,9 +36,9 @@ use Rattle.lxr_mutator.specs.Mutating.{Mutating, next_name, nil, op_now, registe
 use Rattle.lxr_mutator.specs.Steps.{accepts_in, after_in, done_with, draws_for, end_by, ended, finished, has_room, in_current, in_overflow, is_medium, loaded, placed, reaching, referring, run_in, shape_now, shape_told, started, stored, with_register}
 use Rattle.lxr_mutator.specs.Mutators.{AreInHeap, AreRegisters, IsHeld, IsIn, IsMutator, IsThrough, MayBeIn, NeedsBlock, NeedsRun}
 use Rattle.lxr_mutator.specs.Laws.{MutatorsStaySo}
-use Rattle.lxr_mutator.proofs.NowLemmas.{few_words, formed_now}
+use Rattle.lxr_mutator.proofs.NowLemmas.{dest_now, few_words, formed_now}
 use Rattle.lxr_mutator.proofs.PlacedLemmas.{front_is_place, run_in_heap}
-use Rattle.lxr_mutator.proofs.RegisterLemmas.{registers_cleared, registers_set}
+use Rattle.lxr_mutator.proofs.RegisterLemmas.{held_anywhere, registers_cleared, registers_set}
 use Rattle.lxr_mutator.proofs.RunLemmas.{FitsRun, fits_run}
 
 -- it may still do an operation, one that is not the end
@@ -49,7 +48,7 @@ pub record GoesOn (m : Mutating) : Type 0 where
 
 -- it goes on in another phase, with another log, other registers and other spans
 pub goes_on : (m : Mutating) (log : Roomy LogEntry) (registers : List Place) (spans : Spans) (p : MutatorPhase) → IsMutator m → GoesOn m
-    → AreRegisters registers → AreInHeap spans → IsIn m.regions log spans (shape_now m) p
+    → AreRegisters m.width registers → AreInHeap spans → IsIn m.regions log spans (shape_now m) p
     → IsMutator (record m { log = log; registers = registers; spans = spans; phase = p })
 goes_on m log registers spans p is on are heap may = record {
   setup = is.setup;
@@ -116,7 +115,7 @@ finish_stays m how is turn waits = record {
 pub end_stays : (m : Mutating) → IsMutator m → m.phase ≢ phase.Finished → IsMutator (ended m)
 end_stays m is turn = let few = not_through m turn is.replies in record {
   setup = is.setup;
-  registers = registers_cleared;
+  registers = registers_cleared m.width;
   spans = is.spans;
   few_replies = omega (arith, length-append m.replies.items (reply.Ended ∷ []));
   replies = inl (refl, refl);
@@ -137,17 +136,17 @@ go : (m : Mutating) (p : MutatorPhase) → IsMutator m → GoesOn m → MayBeIn 
 go m p is on may = goes_on m m.log m.registers m.spans p is on is.registers is.spans may
 
 -- with another register
-register_stays : (m : Mutating) (r : ℕ) (place : Place) → IsMutator m → GoesOn m → IsHeld place → IsMutator (with_register m r place)
-register_stays m r place is on held =
-    goes_on m m.log (slice_set m.registers r place) m.spans m.phase is on (registers_set m.registers r place is.registers held) is.spans is.phase
+register_stays : (m : Mutating) (r : ℕ) (place : Place) → r < m.width → IsMutator m → GoesOn m → IsHeld place → IsMutator (with_register m r place)
+register_stays m r place named is on held =
+    goes_on m m.log (slice_set m.registers r place) m.spans m.phase is on (registers_set m.width m.registers r place named is.registers held) is.spans is.phase
 
 -- it goes on as before
 register_on : (m : Mutating) (r : ℕ) (place : Place) → GoesOn m → GoesOn (with_register m r place)
 register_on m r place on = record { turn = on.turn; operation = on.operation }
 
 -- what a register holds is nil or a place
-register_held : (m : Mutating) (r : ℕ) → IsMutator m → r < 16 → IsHeld (register m r)
-register_held m r is lt = All-get_or IsHeld m.registers r nil (subst (λ n. r < n) (sym is.registers.sixteen) lt) is.registers.held
+register_held : (m : Mutating) (r : ℕ) → IsMutator m → IsHeld (register m r)
+register_held m r is = held_anywhere m.registers r is.registers.held
 
 -- an operation on a base is done or looks at its header
 based_stays : (m : Mutating) (base : Place) → IsMutator m → GoesOn m → IsHeld base → (b : Bool) → nat_eq base.0 0 ≡ b
@@ -169,7 +168,7 @@ loaded_stays m place r is on held false e = referring_stays m m.names place is o
 -- a place was found in a field
 found_stays : (m : Mutating) (place : Place) → IsMutator m → GoesOn m → IsHeld place → IsMutator (loaded m place)
 found_stays m place is on held =
-    loaded_stays (with_register m (dest_of (op_now m)) place) place (found_reply (op_now m) None) (register_stays m (dest_of (op_now m)) place is on held) (register_on m (dest_of (op_now m)) place on) held
+    loaded_stays (with_register m (dest_of (op_now m)) place) place (found_reply (op_now m) None) (register_stays m (dest_of (op_now m)) place (dest_now m is) is on held) (register_on m (dest_of (op_now m)) place on) held
     (nat_eq place.0 0) refl
 
 -- a field is gone to on a base that is a place
@@ -292,23 +291,23 @@ on_ready : (m : Mutating) → m.phase ≡ phase.Ready → op_now m ≢ op.End �
 on_ready m e no_end = record { turn = λ f. absurd (cc); operation = within_at m.operations (length m.replies.items) no_end }
 
 -- an operation begins
-started_stays : (m : Mutating) (o : Op) → IsMutator m → m.phase ≡ phase.Ready → op_now m ≡ o → IsWellFormed o → IsMutator (started m o)
+started_stays : (m : Mutating) (o : Op) → IsMutator m → m.phase ≡ phase.Ready → op_now m ≡ o → IsFormedFor m.width o → IsMutator (started m o)
 started_stays m (op.New dest shape) is e now formed =
     let on = on_ready m e (λ f. absurd (cc)) in
     let made : shape_now m ≡ shape = ap shape_made now in
     subst (λ s. IsMutator (placed m s)) made (placed_stays m is on (has_room m.spans.current (shape_now m)) refl)
-started_stays m (op.Load dest base index) is e now formed = based_stays m (register m base) is (on_ready m e (λ f. absurd (cc))) (register_held m base is formed.1) (nat_eq (register m base).0 0) refl
-started_stays m (op.Store base index source) is e now formed = based_stays m (register m base) is (on_ready m e (λ f. absurd (cc))) (register_held m base is formed.0) (nat_eq (register m base).0 0) refl
-started_stays m (op.Put base index value) is e now formed = based_stays m (register m base) is (on_ready m e (λ f. absurd (cc))) (register_held m base is formed) (nat_eq (register m base).0 0) refl
-started_stays m (op.Get base index) is e now formed = based_stays m (register m base) is (on_ready m e (λ f. absurd (cc))) (register_held m base is formed) (nat_eq (register m base).0 0) refl
-started_stays m (op.Swap dest base index source) is e now formed = based_stays m (register m base) is (on_ready m e (λ f. absurd (cc))) (register_held m base is formed.1) (nat_eq (register m base).0 0) refl
-started_stays m (op.Add base index value) is e now formed = based_stays m (register m base) is (on_ready m e (λ f. absurd (cc))) (register_held m base is formed) (nat_eq (register m base).0 0) refl
+started_stays m (op.Load dest base index) is e now formed = based_stays m (register m base) is (on_ready m e (λ f. absurd (cc))) (register_held m base is) (nat_eq (register m base).0 0) refl
+started_stays m (op.Store base index source) is e now formed = based_stays m (register m base) is (on_ready m e (λ f. absurd (cc))) (register_held m base is) (nat_eq (register m base).0 0) refl
+started_stays m (op.Put base index value) is e now formed = based_stays m (register m base) is (on_ready m e (λ f. absurd (cc))) (register_held m base is) (nat_eq (register m base).0 0) refl
+started_stays m (op.Get base index) is e now formed = based_stays m (register m base) is (on_ready m e (λ f. absurd (cc))) (register_held m base is) (nat_eq (register m base).0 0) refl
+started_stays m (op.Swap dest base index source) is e now formed = based_stays m (register m base) is (on_ready m e (λ f. absurd (cc))) (register_held m base is) (nat_eq (register m base).0 0) refl
+started_stays m (op.Add base index value) is e now formed = based_stays m (register m base) is (on_ready m e (λ f. absurd (cc))) (register_held m base is) (nat_eq (register m base).0 0) refl
 started_stays m (op.Move dest source) is e now formed =
     let on = on_ready m e (λ f. absurd (cc)) in
-    done_stays (with_register m dest (register m source)) reply.Moved (register_stays m dest (register m source) is on (register_held m source is formed.1)) (register_on m dest (register m source) on)
+    done_stays (with_register m dest (register m source)) reply.Moved (register_stays m dest (register m source) formed.0 is on (register_held m source is)) (register_on m dest (register m source) on)
 started_stays m (op.Nil dest) is e now formed =
     let on = on_ready m e (λ f. absurd (cc)) in
-    done_stays (with_register m dest nil) reply.Cleared (register_stays m dest nil is on (omega arith)) (register_on m dest nil on)
+    done_stays (with_register m dest nil) reply.Cleared (register_stays m dest nil formed is on (omega arith)) (register_on m dest nil on)
 started_stays m (op.Same left right) is e now formed = done_stays m _ is (on_ready m e (λ f. absurd (cc)))
 started_stays m op.Pause is e now formed = go m phase.Asking is (on_ready m e (λ f. absurd (cc))) tt
 started_stays m op.Collect is e now formed = go m phase.Asking is (on_ready m e (λ f. absurd (cc))) tt
@@ -353,7 +352,7 @@ stays_in m old (phase.Block number) is e may ok = block_stays m old is (on_busy 
 stays_in m old (phase.Wiping place next) is e may ok = wiped_stays m place next is (on_busy m (phase.Wiping place next) is e refl) may.0 (nat_lt (next + 1) (word_count (shape_now m))) refl
 stays_in m old (phase.Heading place) is e may ok =
     let on = on_busy m (phase.Heading place) is e refl in
-    done_stays (with_register m (dest_of (op_now m)) place) (reply.New (next_name m)) (register_stays m (dest_of (op_now m)) place is on may.1) (register_on m (dest_of (op_now m)) place on)
+    done_stays (with_register m (dest_of (op_now m)) place) (reply.New (next_name m)) (register_stays m (dest_of (op_now m)) place (dest_now m is) is on may.1) (register_on m (dest_of (op_now m)) place on)
 stays_in m old phase.Asking is e may ok = done_stays m _ is (on_busy m phase.Asking is e refl)
 stays_in m old (phase.GivingUp why) is e may ok =
     let on = on_busy m (phase.GivingUp why) is e refl in

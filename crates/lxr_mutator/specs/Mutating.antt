@@ -6,6 +6,7 @@ use Rattle.lxr_layout.specs.declared.Place.{Place}
 use Rattle.lxr_layout.specs.declared.Name.{Name}
 use Rattle.lxr_layout.specs.declared.LogEntry.{LogEntry}
 use Rattle.lxr_layout.specs.declared.limits.Regions.{Regions}
+pub use Rattle.lxr_layout.specs.Registers.{nil}
 use Rattle.lxr_base.specs.Roomy.{Roomy}
 use Rattle.lxr_graph.specs.declared.Op.{Op}
 use Rattle.lxr_graph.specs.declared.Op.TheVariants as op
@@ -20,13 +21,15 @@ use Rattle.lxr_mutator.specs.declared.phases.MutatorPhase.TheVariants as phase
 use Rattle.lxr_mutator.specs.declared.phases.Waiting.{Waiting}
 use Rattle.lxr_mutator.specs.Operating.{dest_of, shape_made}
 
--- A thread of a script, or a live one: its operations and where it runs; its log, registers and spans; how many objects it had as it began to
--- count, and the replies since; how many operations it did since the epoch began, where its unit is, and how its last unit ended.
+-- A thread of a script, or a live one: its operations and where it runs; its log, its 256 registers and its spans; how many objects it had as it
+-- began to count, and the replies since; how many operations it did since the epoch began, where its unit is, and how its last unit ended.
 pub record Mutating : Type 0 where
   pub thread : ℕ
   pub operations : List Op
   pub regions : Regions
   pub every : ℕ
+  -- how many of its registers it may be asked to name
+  pub width : ℕ
   -- whether it tells the names of what it loads and swaps out, for which it looks at the headers
   pub names : Bool
   pub log : Roomy LogEntry
@@ -37,10 +40,6 @@ pub record Mutating : Type 0 where
   pub since : ℕ
   pub phase : MutatorPhase
   pub end : Option MutEnd
-
--- the place of nothing
-abbrev pub nil : Place
-nil = record { 0 = 0 }
 
 -- the operation whose turn it is: the first without a reply, and the thread's end once all have one
 abbrev pub op_now : Mutating → Op

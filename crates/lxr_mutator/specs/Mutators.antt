@@ -1,7 +1,7 @@
 -- What holds of each mutator, and what becomes of it between its steps.
 use Rattle.std.specs.Prelude.{◌≡◌, ◌≢◌, ℕ, ◌+◌, ◌/◌, ◌^◌, ◌<◌, ◌≤◌, ◌⊎◌, Bool, true, false, if◌then◌else◌, nat_le, Option, Some, None, List, [], drop, length, replicate}
 use Rattle.std.specs.List.{All}
-use Rattle.lxr_layout.specs.declared.TheConstants.{MOST_GRANULES}
+use Rattle.lxr_layout.specs.declared.TheConstants.{MOST_GRANULES, REGISTERS}
 use Rattle.lxr_layout.specs.declared.Place.{Place}
 use Rattle.lxr_layout.specs.declared.Shape.{Shape}
 use Rattle.lxr_layout.specs.declared.LogEntry.{LogEntry}
@@ -15,7 +15,7 @@ use Rattle.lxr_graph.specs.declared.Op.{Op}
 use Rattle.lxr_graph.specs.declared.Op.TheVariants as op
 use Rattle.lxr_graph.specs.declared.Reply.{Reply}
 use Rattle.lxr_graph.specs.declared.Reply.TheVariants as reply
-use Rattle.lxr_graph.specs.Step.{IsWellFormed}
+use Rattle.lxr_graph.specs.Step.{IsFormedFor}
 use Rattle.lxr_alloc.specs.declared.TheConstants.{MOST_OPERATIONS}
 use Rattle.lxr_alloc.specs.declared.Spans.{Spans}
 use Rattle.lxr_alloc.specs.Spans.{FitsSpan, empty_span}
@@ -26,13 +26,14 @@ use Rattle.lxr_mutator.specs.declared.phases.MutEnd.TheVariants as ends
 use Rattle.lxr_mutator.specs.declared.phases.MutatorPhase.{MutatorPhase}
 use Rattle.lxr_mutator.specs.declared.phases.MutatorPhase.TheVariants as phase
 use Rattle.lxr_mutator.specs.Dialogues.{most_operations, Dialogue, first_dialogue}
+use Rattle.lxr_layout.specs.Registers.{AreNil}
 use Rattle.lxr_mutator.specs.Mutating.{Mutating, next_name, nil, op_now, rests_in}
 use Rattle.lxr_mutator.specs.Steps.{shape_now, with_register}
 use Rattle.lxr_mutator.specs.Operating.{dest_of}
 
--- an operation of a script: no end
-abbrev pub IsOperation : Op → Type 0
-IsOperation o = IsWellFormed o × (o ≢ op.End)
+-- an operation that a thread with so many registers may be asked for: no end
+abbrev pub IsOperation : ℕ → Op → Type 0
+IsOperation width o = IsFormedFor width o × (o ≢ op.End)
 
 -- nil or a place
 abbrev pub IsHeld : Place → Type 0
@@ -93,24 +94,26 @@ abbrev pub IsThrough : Mutating → Type 0
 IsThrough m = (m.phase ≡ phase.Finished) × (m.end ≡ Some ends.Ended)
 
 -- What no step of a mutator changes: its thread, what that is asked for and the room for its replies, the regions of its space, how many operations it
--- may do in an epoch, whether it tells names, and how many objects it had as it began to count.
+-- may do in an epoch, how many registers it may be asked to name, whether it tells names, and how many objects it had as it began to count.
 pub record Setup : Type 0 where
   pub thread : ℕ
   pub operations : List Op
   pub room : ℕ
   pub regions : Regions
   pub every : ℕ
+  pub width : ℕ
   pub names : Bool
   pub before : ℕ
 
 -- that of a mutator
 abbrev pub setup_of : Mutating → Setup
-setup_of m = record { thread = m.thread; operations = m.operations; room = m.replies.room; regions = m.regions; every = m.every; names = m.names; before = m.before }
+setup_of m = record { thread = m.thread; operations = m.operations; room = m.replies.room; regions = m.regions; every = m.every; width = m.width; names = m.names; before = m.before }
 
 -- what holds of it
 pub record IsSetup (s : Setup) : Type 0 where
   pub thread : (1 ≤ s.thread) × (s.thread ≤ 255)
-  pub operations : All IsOperation s.operations
+  pub width : (1 ≤ s.width) × (s.width ≤ REGISTERS)
+  pub operations : All (IsOperation s.width) s.operations
   pub few : length s.operations ≤ MOST_OPERATIONS
   -- there is room for each reply, that of the thread's end too
   pub room : length s.operations + 1 ≤ s.room
@@ -121,15 +124,16 @@ pub record IsSetup (s : Setup) : Type 0 where
   -- no more objects were left than a heap has granules
   pub before : s.before ≤ MOST_GRANULES
 
--- sixteen registers, each of which holds nil or a place
-pub record AreRegisters (places : List Place) : Type 0 where
-  pub sixteen : length places ≡ 16
+-- 256 registers, each of which holds nil or a place; those that it may not name are nil
+pub record AreRegisters (width : ℕ) (places : List Place) : Type 0 where
+  pub as_many : length places ≡ REGISTERS
   pub held : All IsHeld places
+  pub unnamed : AreNil places width REGISTERS
 
 -- what holds of each mutator
 pub record IsMutator (m : Mutating) : Type 0 where
   pub setup : IsSetup (setup_of m)
-  pub registers : AreRegisters m.registers
+  pub registers : AreRegisters m.width m.registers
   pub spans : AreInHeap m.spans
   pub few_replies : length m.replies.items ≤ length m.operations + 1
   pub replies : IsThrough m ⊎ (length m.replies.items ≤ length m.operations)
@@ -153,9 +157,10 @@ first_with thread agenda limits every names = record {
   operations = agenda.operations;
   regions = regions_of limits;
   every = every;
+  width = limits.registers;
   names = names;
   log = record { items = []; room = limits.log };
-  registers = replicate 16 nil;
+  registers = replicate REGISTERS nil;
   spans = no_spans;
   before = 0;
   replies = agenda.replies;
@@ -185,7 +190,7 @@ IsFull m = m.replies.room ≤ length m.operations + 1
 pub record MayTakeOrder (m : Mutating) (o : Op) : Type 0 where
   pub ready : m.phase ≡ phase.Ready
   pub idle : length m.operations ≤ length m.replies.items
-  pub operation : IsOperation o
+  pub operation : IsOperation m.width o
   pub room : length m.operations + 2 < m.replies.room
 
 -- its `new` is done from outside with this reply, in no turn of its own

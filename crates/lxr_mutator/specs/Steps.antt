@@ -1,6 +1,6 @@
 -- A mutator as a machine: one case for each phase.
 use Rattle.std.specs.Prelude.{ℕ, ◌+◌, ◌-◌, ◌/◌, ◌%◌, ◌^◌, ◌&&◌, nat_eq, nat_le, nat_lt, if◌then◌else◌, Bool, true, false, Option, Some, None, replicate, slice_set}
-use Rattle.lxr_layout.specs.declared.TheConstants.{FREE_BLOCK_COUNT, FREE_BLOCK_CURSOR, LINES_IN_BLOCK, MOST_BLOCKS, MOST_GRANULES, RUN_COUNT, RUN_CURSOR}
+use Rattle.lxr_layout.specs.declared.TheConstants.{FREE_BLOCK_COUNT, FREE_BLOCK_CURSOR, LINES_IN_BLOCK, MOST_BLOCKS, MOST_GRANULES, REGISTERS, RUN_COUNT, RUN_CURSOR}
 use Rattle.lxr_layout.specs.declared.Place.{Place}
 use Rattle.lxr_layout.specs.declared.Name.{Name}
 use Rattle.lxr_layout.specs.declared.Shape.{Shape}
@@ -144,7 +144,7 @@ done_with m r = record m {
 -- the thread's end is done: its registers are nil
 abbrev pub ended : Mutating → Mutating
 ended m = record m {
-  registers = replicate 16 nil;
+  registers = replicate REGISTERS nil;
   replies = pushed m.replies reply.Ended;
   phase = phase.Finished;
   end = Some ends.Ended;

@@ -1,16 +1,18 @@
 //! Mutators: what a thread is between its units, and what is done to it from outside.
 ghost use Rattle.std.specs.Prelude.{[], ◌≡◌, ◌+◌, ◌<◌, ◌≤◌, ◌↔◌, IfOk, IfSome, IsTrue, IsSome, length};
 ghost use Rattle.std.specs.List.{All};
-ghost use Rattle.lxr_layout.specs.declared.TheConstants.{MOST_GRANULES};
+ghost use Rattle.lxr_layout.specs.declared.TheConstants.{MOST_GRANULES, REGISTERS};
 ghost use Rattle.lxr_layout.specs.Objects.{FitsShape};
+ghost use Rattle.lxr_layout.specs.Registers.{AreNil};
 ghost use Rattle.lxr_layout.specs.Spaces.{AreLimits};
 ghost use Rattle.lxr_alloc.specs.declared.TheConstants.{MOST_OPERATIONS};
 ghost use Rattle.lxr_base.specs.Roomy.{emptied};
-ghost use Rattle.lxr_graph.specs.Step.{IsWellFormed};
+ghost use Rattle.lxr_graph.specs.Step.{IsFormedFor};
+ghost use Rattle.lxr_mutator.specs.Operating.{dest_of, shape_made};
 ghost use Rattle.lxr_mutator.specs.Mutating.{IsWaiting, has_collected, newest_of, next_name, op_now, placed_count, register, reply_in, rests_in, tally_of, waiting_by, wants_pause};
 ghost use Rattle.lxr_mutator.specs.Dialogues.{most_operations};
 ghost use Rattle.lxr_mutator.specs.Steps.{shape_now, with_register};
-ghost use Rattle.lxr_mutator.specs.Mutators.{IsFull, IsHeld, IsMutator, IsOperation, IsThrough, again, answered, first, first_live, first_with, held_place, no_spans, renewed, served};
+ghost use Rattle.lxr_mutator.specs.Mutators.{AreRegisters, IsFull, IsHeld, IsMutator, IsOperation, IsThrough, again, answered, first, first_live, first_with, held_place, no_spans, renewed, served};
 
 use crate::agenda::{Agenda, most_operations};
 use crate::operating::{dest_of, shape_made};
@@ -19,7 +21,7 @@ use lxr_actor::Actor;
 use lxr_alloc::{Span, Spans};
 use lxr_barrier::Log;
 use lxr_graph::{Op, Operations, Replies, Reply};
-use lxr_layout::{Limits, MOST_GRANULES, Name, Place, Regions, Shape, regions};
+use lxr_layout::{Limits, MOST_GRANULES, Name, Place, REGISTERS, Regions, Shape, regions};
 use std::alloc::{AllocError, Global};
 use std::marker::Model;
 
@@ -38,7 +40,11 @@ pub struct Mutator {
     every: u32,
     names: bool,
     log: Log,
-    registers: [Place; 16],
+    registers: Vec<Place>,
+    /// How many of its first registers may hold something.
+    in_use: u16,
+    /// How many registers it may be asked to name.
+    width: u16,
     spans: Spans,
     /// How many objects of its thread there were as it began to count.
     before: u32,
@@ -75,7 +81,7 @@ impl Mutator {
     ) -> Result<Mutator, AllocError>
         requires limits { AreLimits limits }
         requires thread { (1 ≤ thread) × (thread ≤ limits.threads) }
-        requires operations { All IsOperation operations.items }
+        requires operations { All (IsOperation limits.registers) operations.items }
         requires few { length operations.items ≤ most_operations thread }
         requires every { (1 ≤ every) × (every ≤ 1048576) }
         ensures { IfOk result (λ m. m ≡ first thread operations.items limits every) }
@@ -115,7 +121,7 @@ impl Mutator {
     ) -> Result<Mutator, AllocError>
         requires limits { AreLimits limits }
         requires thread { (1 ≤ thread) × (thread ≤ limits.threads) }
-        requires operations { All IsOperation agenda.operations }
+        requires operations { All (IsOperation limits.registers) agenda.operations }
         requires few { length agenda.operations ≤ MOST_OPERATIONS }
         requires begins { (agenda.replies.items ≡ []) × (length agenda.operations + 1 ≤ agenda.replies.room) }
         requires most { agenda.replies.room ≤ most_operations thread + 2 }
@@ -130,7 +136,9 @@ impl Mutator {
             every,
             names,
             log,
-            registers: [Place::NIL; 16],
+            registers: vec![in alloc; Place::NIL; REGISTERS]?,
+            in_use: 0,
+            width: limits.registers,
             spans: no_spans(),
             before: 0,
             since: 0,
@@ -157,7 +165,7 @@ impl Mutator {
     pub fn waiting(&self) -> Option<Waiting>
         ensures waiting { result ≡ waiting_by self.now self.now.end }
         ensures some { IsSome result ↔ IsWaiting self.now }
-        ensures fits { IfSome result (λ w. (w.dest < 16) × FitsShape w.shape) }
+        ensures fits { IfSome result (λ w. (w.dest < self.now.width) × FitsShape w.shape) }
     {
         match self.end {
             Some(MutEnd::NoRun) if self.resting() => {
@@ -316,14 +324,17 @@ impl Mutator {
         };
     }
 
-    /// A new epoch begins, with these registers. Where the thread's end is done, nothing is left to do in it.
-    pub fn start_again(&mut self, registers: [Place; 16])
+    /// A new epoch begins, with these registers, of which those after the first `in_use` are nil. Where the thread's end is done, nothing is
+    /// left to do in it.
+    pub fn start_again(&mut self, row: &[Place], in_use: u16)
         requires rests { IsTrue (rests_in self.old.phase) }
         requires spans { self.old.spans ≡ no_spans }
-        requires held { All IsHeld registers }
-        ensures { self.new ≡ again self.old registers }
+        requires registers { AreRegisters self.old.width row.now }
+        requires few { in_use ≤ self.old.width }
+        requires others { AreNil row.now in_use REGISTERS }
+        ensures { self.new ≡ again self.old row.now }
     {
-        self.registers = registers;
+        self.take_registers(row, in_use);
         self.since = 0;
         self.phase = match self.end {
             Some(MutEnd::Ended) => MutatorPhase::Finished,
@@ -331,9 +342,53 @@ impl Mutator {
         };
     }
 
+    /// Its registers hold what these do, of which those after the first `in_use` are nil.
+    fn take_registers(&mut self, row: &[Place], in_use: u16)
+        requires registers { AreRegisters self.old.width row.now }
+        requires few { in_use ≤ self.old.width }
+        requires others { AreNil row.now in_use REGISTERS }
+        ensures { self.new ≡ record self.old { registers = row.now } }
+    {
+        let count = usize::from(self.in_use.max(in_use));
+        self.registers[0..count].copy_from_slice(&row[..count]);
+        self.in_use = in_use;
+    }
+
+    /// How many registers it may be asked to name.
+    pub fn width(&self) -> u16
+        ensures { result ≡ self.now.width }
+    {
+        self.width
+    }
+
+    /// What its registers hold.
+    pub fn registers(&self) -> &[Place]
+        ensures { result.now ≡ self.now.registers }
+    {
+        &self.registers
+    }
+
+    /// How many of its first registers are in use: all others are nil.
+    pub fn registers_in_use(&self) -> u16
+        ensures few { result ≤ self.now.width }
+        ensures others { AreNil self.now.registers result REGISTERS }
+    {
+        self.in_use
+    }
+
+    /// Looks again how many registers are in use: up to the last that holds something.
+    pub fn recount_registers(&mut self)
+        ensures { self.new ≡ self.old }
+    {
+        let mut in_use = self.in_use;
+        while in_use > 0 && self.registers[usize::from(in_use) - 1] == Place::NIL {
+            in_use -= 1;
+        }
+        self.in_use = in_use;
+    }
+
     /// What a register holds.
     pub fn register(&self, number: u8) -> Place
-        requires { number < 16 }
         ensures register { result ≡ register self.now number }
         ensures held { IsHeld result }
     {
@@ -367,7 +422,9 @@ impl Mutator {
     #[inline(always)]
     fn op(&self) -> Op
         ensures op { result ≡ op_now self.now }
-        ensures formed { IsWellFormed result }
+        ensures formed { IsFormedFor self.now.width result }
+        ensures named { dest_of result < self.now.width }
+        ensures fits { FitsShape (shape_made result) }
     {
         self.agenda.op()
     }
@@ -384,11 +441,15 @@ impl Mutator {
     /// Sets what a register holds.
     #[inline(always)]
     fn set_register(&mut self, number: u8, place: Place)
-        requires number { number < 16 }
+        requires number { number < self.old.width }
         requires held { IsHeld place }
         ensures { self.new ≡ with_register self.old number place }
     {
         self.registers[usize::from(number)] = place;
+        let needed = u16::from(number) + 1;
+        if self.in_use < needed {
+            self.in_use = needed;
+        }
     }
 
     /// The `new` that waits is done with this reply.

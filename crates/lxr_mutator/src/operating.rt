@@ -1,7 +1,5 @@
 //! The parts of an operation: each function reads any operation.
-ghost use Rattle.std.specs.Prelude.{◌≡◌, ◌<◌};
-ghost use Rattle.lxr_layout.specs.Objects.{FitsShape};
-ghost use Rattle.lxr_graph.specs.Step.{IsWellFormed};
+ghost use Rattle.std.specs.Prelude.{◌≡◌};
 ghost use Rattle.lxr_mutator.specs.Operating.{asked_reply, dest_of, found_reply, indexed_fields, index_of, shape_made, value_of};
 
 use lxr_graph::{Op, Reply};
@@ -16,9 +14,7 @@ pub const UNNAMED: Name = Name {
 /// The register that gets what `new` makes, `load` loads or `swap` swaps out; 0 for all else.
 #[inline(always)]
 pub fn dest_of(op: Op) -> u8
-    requires { IsWellFormed op }
-    ensures register { result ≡ dest_of op }
-    ensures exists { result < 16 }
+    ensures { result ≡ dest_of op }
 {
     match op {
         Op::New { dest, .. } => dest,
@@ -59,9 +55,7 @@ pub fn value_of(op: Op) -> u64
 /// The shape of what `new` makes; no fields for all else.
 #[inline(always)]
 pub fn shape_made(op: Op) -> Shape
-    requires { IsWellFormed op }
-    ensures shape { result ≡ shape_made op }
-    ensures fits { FitsShape result }
+    ensures { result ≡ shape_made op }
 {
     match op {
         Op::New { shape, .. } => shape,

@@ -154,12 +154,16 @@ module _ (s began : Space) (g : AbstractState) (can : CanPause s g) (begins : be
         queue : Queues raised queued left at' raised.report.promoted.items raised.report.stuck.items
         queue = queues left at' raised.report.promoted.items raised.report.stuck.items is_raised
 
-        -- what registers hold has room among the deferred ones
-        pub registers_fit : length queued.registers.items ≤ queued.deferred.room
-        registers_fit =
-            let many = queue.holds.as_many.0 in
-            let room = queue.holds.room.deferred in
-            omega (arith, many, room)
+        -- there are as many registers as deferred ones, of which a thread may name as many
+        pub registers_as_many : length queued.registers.items ≡ length queued.deferred.items
+        registers_as_many =
+            let now = ap (λ (x : Space). length x.registers.items) queue.space in
+            let last = ap (λ (x : Space). length x.deferred.items) queue.space in
+            let many = is_raised.as_many in
+            omega (arith, now, last, many)
+
+        pub registers_width : queued.registers.width ≡ queued.deferred.width
+        registers_width = queue.holds.room.registers ∙ sym queue.holds.room.deferred
 
         -- the moment once counting is done
         abbrev done : Moment

@@ -3,7 +3,7 @@ use Rattle.std.proofs.Common.{◌≡◌, ◌≢◌, ℕ, zero, suc, ◌+◌, ◌
 use Rattle.std.specs.Prelude.{◌&&◌, Option, Some, None, map, slice_get}
 use Rattle.std.proofs.lemmas.Bool.{or_left, or_right}
 use Rattle.std.proofs.lemmas.Bool.Decides.{nat_tests}
-use Rattle.lxr_layout.specs.declared.TheConstants.{DECREMENT_COUNT, DECREMENT_CURSOR, GRANULES_IN_BLOCK, MOST_GRANULES, TRACING_WORD, WORDS_IN_BLOCK}
+use Rattle.lxr_layout.specs.declared.TheConstants.{DECREMENT_COUNT, DECREMENT_CURSOR, GRANULES_IN_BLOCK, MOST_GRANULES, REGISTERS, TRACING_WORD, WORDS_IN_BLOCK}
 use Rattle.lxr_layout.specs.declared.Name.{Name}
 use Rattle.lxr_layout.specs.declared.Place.{Place}
 use Rattle.lxr_layout.specs.declared.Shape.{Shape}
@@ -414,15 +414,16 @@ last_place s st n at some =
     omega (arith, e, h.0, h.1, b.1)
 
 -- the list has room for its entries
-pub list_fits : (s : Space) (st : CascadeStage) → IsAt s st → ((tables_of s).cursors DECREMENT_COUNT ≤ s.limits.threads * (s.limits.log + 16)) × ((tables_of s).cursors DECREMENT_COUNT < 2 ^ 32)
+pub list_fits : (s : Space) (st : CascadeStage) → IsAt s st → ((tables_of s).cursors DECREMENT_COUNT ≤ s.limits.threads * (s.limits.log + s.limits.registers)) × ((tables_of s).cursors DECREMENT_COUNT < 2 ^ 32)
 list_fits s st at =
     let f = at.cascade.remains.decrements.fits in
     let a = at.space.limits.threads in
     let b = at.space.limits.log in
-    (f, small s.limits.threads s.limits.log ((tables_of s).cursors DECREMENT_COUNT) a.1 b.1 f)
+    let c = at.space.limits.registers in
+    (f, small s.limits.threads s.limits.log s.limits.registers ((tables_of s).cursors DECREMENT_COUNT) a.1 b.1 c.1 f)
   where
-    small : (x y n : ℕ) → x ≤ 255 → y ≤ 65536 → n ≤ x * (y + 16) → n < 2 ^ 32
-    small x y n hx hy h = grind arith
+    small : (x y z n : ℕ) → x ≤ 255 → y ≤ 65536 → z ≤ REGISTERS → n ≤ x * (y + z) → n < 2 ^ 32
+    small x y z n hx hy hz h = grind arith
 
 pub taken_leaves : (s now : Space) (n : ℕ) → Turns s now (with_length (tables_of s) n) → Leaves s now
 taken_leaves s now n turns = turned_leaves s now (with_length (tables_of s) n) turns

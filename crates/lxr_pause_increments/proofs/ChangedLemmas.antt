@@ -8,6 +8,7 @@ use Rattle.lxr_layout.specs.declared.Name.{Name}
 use Rattle.lxr_layout.specs.declared.Place.{Place}
 use Rattle.lxr_layout.specs.declared.TheConstants.{REMEMBERED_CURSOR}
 use Rattle.lxr_layout.specs.Places.{field_word}
+use Rattle.lxr_layout.specs.Registers.{held_at, nil}
 use Rattle.lxr_graph.specs.Names.{has}
 use Rattle.lxr_graph.proofs.RowLemmas.{slice_get-set}
 use Rattle.lxr_image.specs.declared.space.Space.{Space}
@@ -22,6 +23,7 @@ use Rattle.lxr_invariant.specs.Raised.{with_promoted}
 use Rattle.lxr_invariant.specs.Standing.{word_of_field}
 use Rattle.lxr_invariant.proofs.EntryLemmas.{same_number}
 use Rattle.lxr_invariant.proofs.FrameLemmas.{bits_still, marks_still}
+use Rattle.lxr_pause_promote.specs.Either.{IsPlaceOf}
 use Rattle.lxr_pause_promote.proofs.FewerLemmas.{states_same}
 use Rattle.lxr_pause_increments.specs.Accounted.{IsHolder, IsKnown, IsRaisable, IsRegisterFixed, references_at, stage_with_held}
 use Rattle.lxr_pause_increments.specs.Increments.{HasCountsSoFar, HasRoomToRaise, IncrementStage, IsFull, IsIncrementing, RaisingLeaves, RaisingLeavesTables, StaysRemembered, left}
@@ -34,7 +36,7 @@ use Rattle.lxr_pause_increments.proofs.RoomLemmas.{full_at, granules}
 use Rattle.lxr_pause_increments.proofs.FixedLemmas.{fixed_left, fixed_written, moving_register, moving_written, register_left, word_written}
 use Rattle.lxr_pause_increments.proofs.RememberedLemmas.{LeavesSet, stays_left}
 use Rattle.lxr_pause_increments.proofs.StageLemmas.{all_made}
-use Rattle.lxr_pause_increments.proofs.HeldLemmas.{either_fixed, field_holds, goes_both, holder_known, holder_member, still_held, still_known, still_placed, still_promoted}
+use Rattle.lxr_pause_increments.proofs.HeldLemmas.{either_fixed, field_holds, goes_both, holder_known, holder_member, member_place, still_held, still_known, still_placed, still_promoted}
 
 -- ---- what a write leaves
 
@@ -208,6 +210,19 @@ registers_as_many s m at st k held is held_is =
     let below = slice_get_within m.state.registers k held held_is in
     let same = is.moving.registers.as_many in
     omega (arith, below, same)
+
+-- a register that is to hold another place holds something
+pub register_holds : (a b : Space) (m : Moment) (at : Name → ℕ) (st : IncrementStage) (k : ℕ) (p : Place) (held : Option Name) (w : ℕ) → HeldIsRaised a m at st k p held → RaisesHeld a b m at st held w → p.0 ≢ w
+    → held_at b.registers.items k ≢ nil
+register_holds a b m at st k p None w is raises differ none = differ (elim is.may.word [ inl e ↦ e ∙ sym raises.word | inr e ↦ e ∙ sym raises.word ])
+register_holds a b m at st k p (Some o) w is raises differ none =
+    let next : IncrementStage = stage_with_held m st (Some o) w in
+    let q : Place = held_at b.registers.items k in
+    let got : slice_get b.registers.items k ≡ Some q = slice_get-get_or b.registers.items k nil (registers_as_many b m at next k (Some o) raises.incrementing is.held_is) in
+    let place : IsPlaceOf at next.now o q.0 = elim (raises.incrementing.moving.registers.each k q (Some o) got is.held_is) [ inl e ↦ inr e | inr e ↦ inl e ] in
+    let some = (member_place b m at next o q.0 raises.incrementing (is.may.member o refl) place).0 in
+    let zero : q.0 ≡ 0 = ap (λ z. z.0) none in
+    omega (arith, some, zero)
 
 module _ (a b : Space) (m : Moment) (at : Name → ℕ) (st : IncrementStage) (k : ℕ) (p : Place) (held : Option Name) (w : ℕ) (is : HeldIsRaised a m at st k p held) (raises : RaisesHeld a b m at st held w) where
   abbrev next : IncrementStage

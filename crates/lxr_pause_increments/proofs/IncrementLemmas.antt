@@ -2,7 +2,7 @@
 use Rattle.std.proofs.Common.{◌≡◌, ℕ, ◌+◌, ◌*◌, ◌<◌, ◌≤◌, refl, sym, ap, subst, ◌∙◌, inl, inr, arith, true, false, length}
 use Rattle.std.specs.Prelude.{◌&&◌, not, IsTrue, map, min, reverse}
 use Rattle.lxr_layout.specs.declared.Name.{Name}
-use Rattle.lxr_layout.specs.declared.TheConstants.{DECREMENT_COUNT, DECREMENT_CURSOR, REMEMBERED_CURSOR, STUCK, TRACING_WORD}
+use Rattle.lxr_layout.specs.declared.TheConstants.{DECREMENT_COUNT, DECREMENT_CURSOR, REGISTERS, REMEMBERED_CURSOR, STUCK, TRACING_WORD}
 use Rattle.lxr_tables.specs.Counts.{raised_count}
 use Rattle.lxr_graph.specs.Names.{has, same_name}
 use Rattle.lxr_graph.proofs.NameSets.{same_names}
@@ -98,8 +98,8 @@ incrementing_with a c m at st after leaves still stays found is raises = record 
   space = space_stays a c leaves still.size is.space;
   room = room_stays a c leaves is.room;
   as_many = (
-    still.registers ∙ is.as_many.0 ∙ ap (λ l. 16 * l.threads) (sym (same_limits a c leaves)),
-    ap (λ (s : Space). length s.deferred.items) leaves.space ∙ is.as_many.1 ∙ ap (λ l. 16 * l.threads) (sym (same_limits a c leaves)),
+    still.registers ∙ is.as_many.0 ∙ ap (λ l. REGISTERS * l.threads) (sym (same_limits a c leaves)),
+    ap (λ (s : Space). length s.deferred.items) leaves.space ∙ is.as_many.1 ∙ ap (λ l. REGISTERS * l.threads) (sym (same_limits a c leaves)),
   );
   follows = is.follows;
   moving = raises.moving;

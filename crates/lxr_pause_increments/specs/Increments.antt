@@ -1,7 +1,7 @@
 -- What holds while counts are raised one after another and objects are promoted.
 use Rattle.std.specs.Prelude.{◌≡◌, ◌≢◌, ℕ, ◌+◌, ◌-◌, ◌*◌, ◌/◌, ◌<◌, ◌≤◌, ◌⊎◌, ◌↔◌, ◌==◌, ◌&&◌, not, Bool, false, Some, List, [], ◌∷◌, ◌++◌, IsTrue, length, map, min, reverse, slice_get, if◌then◌else◌}
 use Rattle.lxr_layout.specs.declared.Name.{Name}
-use Rattle.lxr_layout.specs.declared.TheConstants.{DECREMENT_COUNT, DECREMENT_CURSOR, GRANULES_IN_BLOCK, REMEMBERED_CURSOR, STUCK, WORDS_IN_LINE}
+use Rattle.lxr_layout.specs.declared.TheConstants.{DECREMENT_COUNT, DECREMENT_CURSOR, GRANULES_IN_BLOCK, REGISTERS, REMEMBERED_CURSOR, STUCK, WORDS_IN_LINE}
 use Rattle.lxr_graph.specs.Names.{has, without}
 use Rattle.lxr_graph.specs.State.{object_at, refs_of}
 use Rattle.lxr_image.specs.declared.space.Space.{Space}
@@ -98,7 +98,7 @@ pub record HasRoomToRaise (s : Space) : Type 0 where
 pub record IsIncrementing (s : Space) (m : Moment) (at : Name → ℕ) (st : IncrementStage) : Type 0 where
   pub space : IsSpace s
   pub room : HasRoom s
-  pub as_many : (length s.registers.items ≡ 16 * s.limits.threads) × (length s.deferred.items ≡ 16 * s.limits.threads)
+  pub as_many : (length s.registers.items ≡ REGISTERS * s.limits.threads) × (length s.deferred.items ≡ REGISTERS * s.limits.threads)
   pub follows : FollowsPause m
   pub moving : IsMoving s st.found m at st.now st.promoted
   -- each promoted name was made since the last pause and held up when it was promoted, and each is promoted once

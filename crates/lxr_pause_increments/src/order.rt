@@ -141,7 +141,7 @@ fn raise_held(space: &mut Space, register: usize, held: Place, shortage: &mut Sh
 {
     let now = raise_word(space, u64::from(held.0), shortage);
     if now != u64::from(held.0) {
-        space.registers.set(register, Place(now as u32));
+        space.registers.replace(register, Place(now as u32));
     }
 }
 
@@ -169,8 +169,10 @@ fn raise_registers(space: &mut Space, shortage: &mut Shortage)
     ensures leaves { RaisingLeaves space.old space.new }
     ensures short { IsShortage space.new shortage.new }
 {
-    for register in 0..space.registers.len() {
+    let mut register = space.next_register(0);
+    while register < space.registers.len() {
         raise_register(space, register, shortage);
+        register = space.next_register(register + 1);
     }
 }
 

@@ -1,17 +1,19 @@
 -- The loops that queue: what is left to be done, done on the tables of now, leads to what all of it leads to on the first
 -- tables.
-use Rattle.std.proofs.Common.{◌≡◌, ℕ, suc, ◌+◌, ◌≤◌, refl, sym, ap, ◌∙◌, arith, true, false, List, [], ◌∷◌, ◌++◌, length, take, drop, add-one, nat_eq, cond}
+use Rattle.std.proofs.Common.{◌≡◌, ◌≢◌, ℕ, suc, ◌+◌, ◌<◌, ◌≤◌, refl, sym, ap, ◌∙◌, inl, inr, arith, true, false, List, ◌∷◌, length, drop, add-one, nat_eq, cond}
 use Rattle.std.specs.Prelude.{Some, slice_get}
 use Rattle.std.proofs.Math.Seq.{drop-cons, drop-length}
-use Rattle.std.proofs.lemmas.Option.{slice_get_within, get_or_from_slice_get}
-use Rattle.std.proofs.lemmas.List.{take_more}
+use Rattle.std.proofs.lemmas.Bool.Decides.{eqb_tells}
+use Rattle.std.proofs.lemmas.Option.{slice_get-get_or, slice_get_within, get_or_from_slice_get}
 use Rattle.lxr_layout.specs.declared.TheConstants.{DECREMENT_COUNT}
 use Rattle.lxr_layout.specs.declared.LogEntry.{LogEntry}
 use Rattle.lxr_layout.specs.declared.Place.{Place}
-use Rattle.lxr_base.specs.Roomy.{Roomy, pushed}
+use Rattle.lxr_layout.specs.Registers.{AreNil, held_at, nil}
 use Rattle.lxr_image.specs.declared.space.Space.{Space}
+use Rattle.lxr_image.specs.Registers.{holding}
 use Rattle.lxr_image.specs.Tables.{Tables}
 use Rattle.lxr_image.specs.Spaces.{IsSpace, Turns, tables_of}
+use Rattle.lxr_image.proofs.PassedLemmas.{nil_there, passed_over}
 use Rattle.lxr_image.proofs.SpaceLemmas.{still_space}
 use Rattle.lxr_pause_queue.specs.Appending.{dropped, with_entries, with_entry, with_old, with_registers}
 
@@ -26,11 +28,32 @@ next xs k x e =
 
 -- ---- one old value
 
-pub old_few : (t : Tables) (p : ℕ) → (with_old t p).cursors DECREMENT_COUNT ≤ t.cursors DECREMENT_COUNT + 1
-old_few t p = elim (nat_eq p 0) as (λ b. cond b t.cursors (λ i. cond (nat_eq i 6) (t.cursors DECREMENT_COUNT + 1) (t.cursors i)) 6 ≤ t.cursors DECREMENT_COUNT + 1) [
+-- how many entries a place takes in the list of decrements: none where it is nil
+abbrev pub taken : ℕ → ℕ
+taken p = cond (nat_eq p 0) 0 1
+
+pub old_takes : (t : Tables) (p : ℕ) → (with_old t p).cursors DECREMENT_COUNT ≤ t.cursors DECREMENT_COUNT + taken p
+old_takes t p = elim (nat_eq p 0) as (λ b. cond b t.cursors (λ i. cond (nat_eq i 6) (t.cursors DECREMENT_COUNT + 1) (t.cursors i)) 6 ≤ t.cursors DECREMENT_COUNT + cond b 0 1) [
   | true ↦ omega arith
   | false ↦ omega arith
 ]
+
+pub old_few : (t : Tables) (p : ℕ) → (with_old t p).cursors DECREMENT_COUNT ≤ t.cursors DECREMENT_COUNT + 1
+old_few t p =
+    let takes = old_takes t p in
+    let one : taken p ≤ 1 = elim (nat_eq p 0) as (λ b. cond b 0 1 ≤ 1) [ true ↦ omega arith | false ↦ omega arith ] in
+    omega (arith, takes, one)
+
+-- what a register holds no more takes no more than what it held
+pub dropped_takes : (was now : Place) → taken (dropped was now) ≤ taken was.0
+dropped_takes was now = elim (nat_eq was.0 now.0) as (λ b. taken (cond b 0 was.0) ≤ taken was.0) [ true ↦ omega arith | false ↦ omega arith ]
+
+pub some_taken : (p : ℕ) → p ≢ 0 → taken p ≡ 1
+some_taken p some = elim (eqb_tells p 0) [ inl none ↦ absurd (some none.1) | inr other ↦ ap (λ b. cond b 0 1) other.0 ]
+
+-- a register that held nothing drops nothing
+pub nothing_dropped : (now : Place) → dropped nil now ≡ 0
+nothing_dropped now = elim (nat_eq 0 now.0) as (λ b. ◌≡◌ {A = ℕ} (cond b 0 0) 0) [ true ↦ refl | false ↦ refl ]
 
 -- ---- entries
 
@@ -68,47 +91,76 @@ entries_end a b k so_far all = record {
 
 -- ---- registers
 
--- the registers before one are queued
+-- the registers before one are queued, and no more entries than registers that held something
 pub record RegistersSoFar (a b : Space) (k : ℕ) : Type 0 where
   pub space : IsSpace b
   pub rest : b ≡ record a { words = b.words }
+  pub within : k ≤ length a.deferred.items
   pub left : with_registers (tables_of b) (drop k a.deferred.items) (drop k a.registers.items) ≡ with_registers (tables_of a) a.deferred.items a.registers.items
-  pub few : (tables_of b).cursors DECREMENT_COUNT ≤ (tables_of a).cursors DECREMENT_COUNT + k
+  pub few : (tables_of b).cursors DECREMENT_COUNT + holding (drop k a.deferred.items) ≤ (tables_of a).cursors DECREMENT_COUNT + holding a.deferred.items
 
-pub registers_begin : (a : Space) → IsSpace a → RegistersSoFar a a 0
-registers_begin a space = record { space = space; rest = refl; left = refl; few = omega arith }
+registers_begin : (a : Space) → IsSpace a → RegistersSoFar a a 0
+registers_begin a space = record { space = space; rest = refl; within = omega arith; left = refl; few = omega arith }
+
+-- what is held from a register on is what it holds and what is held behind it
+held_from : (places : List Place) (k : ℕ) (was : Place) → slice_get places k ≡ Some was → holding (drop k places) ≡ taken was.0 + holding (drop (k + 1) places)
+held_from places k was there = ap holding (next places k was there)
+
+-- where a register drops something, there is room for it
+pub register_fits : (a b : Space) (k p most : ℕ) (was now : Place) → RegistersSoFar a b k → slice_get b.deferred.items k ≡ Some was → p ≡ dropped was now → (tables_of a).cursors DECREMENT_COUNT + holding a.deferred.items ≤ most → p ≢ 0
+    → (tables_of b).cursors DECREMENT_COUNT < most
+register_fits a b k p most was now so_far was_there is room some =
+    let was_at : slice_get a.deferred.items k ≡ Some was = sym (ap (λ s. slice_get s.deferred.items k) so_far.rest) ∙ was_there in
+    let here = held_from a.deferred.items k was was_at in
+    let few = so_far.few in
+    let one : taken (dropped was now) ≡ 1 = some_taken (dropped was now) (λ e. some (is ∙ e)) in
+    let takes = dropped_takes was now in
+    omega (arith, here, few, one, takes, room)
 
 pub registers_next : (a b c : Space) (k p : ℕ) (was now : Place) → RegistersSoFar a b k → slice_get b.deferred.items k ≡ Some was → slice_get b.registers.items k ≡ Some now
     → p ≡ dropped was now → Turns b c (with_old (tables_of b) p) → RegistersSoFar a c (k + 1)
 registers_next a b c k p was now so_far was_there now_there is call =
     let was_at : slice_get a.deferred.items k ≡ Some was = sym (ap (λ s. slice_get s.deferred.items k) so_far.rest) ∙ was_there in
     let now_at : slice_get a.registers.items k ≡ Some now = sym (ap (λ s. slice_get s.registers.items k) so_far.rest) ∙ now_there in
-    let one = old_few (tables_of b) p in
+    let below = slice_get_within a.deferred.items k was was_at in
+    let here = held_from a.deferred.items k was was_at in
+    let one = old_takes (tables_of b) p in
+    let same : taken p ≡ taken (dropped was now) = ap taken is in
+    let takes = dropped_takes was now in
     let before = so_far.few in
     let cursor : (tables_of c).cursors DECREMENT_COUNT ≡ (with_old (tables_of b) p).cursors DECREMENT_COUNT = ap (λ t. t.cursors DECREMENT_COUNT) call.tables in
     record {
       space = still_space b c (with_old (tables_of b) p) so_far.space call refl;
       rest = call.rest ∙ ap {A = Space} (λ s. record s { words = c.words }) so_far.rest;
+      within = omega (arith, below);
       left = ap (λ t. with_registers t (drop (k + 1) a.deferred.items) (drop (k + 1) a.registers.items)) (call.tables ∙ ap (with_old (tables_of b)) is)
           ∙ sym (λ j. with_registers (tables_of b) (next a.deferred.items k was was_at j) (next a.registers.items k now now_at j)) ∙ so_far.left;
-      few = omega arith;
+      few = omega (arith, here, one, same, takes, before, cursor);
     }
+
+-- registers that held nothing drop nothing
+pub registers_passed : (a b : Space) (from to : ℕ) → length a.registers.items ≡ length a.deferred.items → from ≤ to → to ≤ length a.deferred.items → AreNil a.deferred.items from to → RegistersSoFar a b from → RegistersSoFar a b to
+registers_passed a b from to many low end last = passed_over (RegistersSoFar a b) from to low (λ k above below so_far.
+    let now : Place = held_at a.registers.items k in
+    let was_at = ap {A = Space} (λ s. slice_get s.deferred.items k) so_far.rest ∙ nil_there a.deferred.items from to k last end above below in
+    let now_at = ap {A = Space} (λ s. slice_get s.registers.items k) so_far.rest ∙ slice_get-get_or a.registers.items k nil (omega (arith, many, end, below)) in
+    registers_next a b b k 0 nil now so_far was_at now_at (sym (nothing_dropped now)) (record { tables = refl; rest = refl }))
+
+-- before the first that held something nothing is queued
+pub registers_first : (a : Space) (to : ℕ) → IsSpace a → length a.registers.items ≡ length a.deferred.items → to ≤ length a.deferred.items → AreNil a.deferred.items 0 to → RegistersSoFar a a to
+registers_first a to space many end last = registers_passed a a 0 to many (omega arith) end last (registers_begin a space)
+
+-- and from one to the next that did, what that one dropped
+pub registers_later : (a b c : Space) (k p to : ℕ) (was now : Place) → length a.registers.items ≡ length a.deferred.items → RegistersSoFar a b k → slice_get b.deferred.items k ≡ Some was → slice_get b.registers.items k ≡ Some now
+    → p ≡ dropped was now → Turns b c (with_old (tables_of b) p) → k + 1 ≤ to → to ≤ length c.deferred.items → AreNil c.deferred.items (k + 1) to → RegistersSoFar a c to
+registers_later a b c k p to was now many so_far was_there now_there is call low end last =
+    let after = registers_next a b c k p was now so_far was_there now_there is call in
+    let same : c.deferred.items ≡ a.deferred.items = ap {A = Space} (λ s. s.deferred.items) after.rest in
+    let length_same = ap length same in
+    registers_passed a c (k + 1) to many low (omega (arith, end, length_same)) (λ j above below. ap (λ xs. held_at xs j) (sym same) ∙ last j above below) after
 
 pub registers_end : (a b : Space) (k : ℕ) → RegistersSoFar a b k → k ≡ length a.deferred.items → Turns a b (with_registers (tables_of a) a.deferred.items a.registers.items)
 registers_end a b k so_far all = record {
   tables = sym (ap (λ xs. with_registers (tables_of b) xs (drop k a.registers.items)) (ap (λ n. drop n a.deferred.items) all ∙ drop-length a.deferred.items)) ∙ so_far.left;
   rest = so_far.rest;
 }
-
--- ---- deferred registers
-
--- one register more is deferred
-pub deferred_next : (a b : Space) (d : Roomy Place) (k : ℕ) (p : Place) → b ≡ record a { deferred = record a.deferred { items = take k a.registers.items } }
-    → slice_get b.registers.items k ≡ Some p → d ≡ pushed b.deferred p → record b { deferred = d } ≡ record a { deferred = record a.deferred { items = take (k + 1) a.registers.items } }
-deferred_next a b d k p so_far there is =
-    let at_k : slice_get a.registers.items k ≡ Some p = sym (ap (λ s. slice_get s.registers.items k) so_far) ∙ there in
-    let one : take (k + 1) a.registers.items ≡ take k a.registers.items ++ p ∷ [] =
-    take_more a.registers.items k p (slice_get_within a.registers.items k p at_k) ∙ ap (λ x. take k a.registers.items ++ x ∷ []) (get_or_from_slice_get a.registers.items k p p at_k) in
-    let now : d ≡ record a.deferred { items = take (k + 1) a.registers.items } =
-    is ∙ ap (λ s. pushed s.deferred p) so_far ∙ ap {A = List Place} (λ xs. record a.deferred { items = xs }) (sym one) in
-    ap {A = Space} (λ s. record s { deferred = d }) so_far ∙ ap {A = Roomy Place} (λ x. record a { deferred = x }) now

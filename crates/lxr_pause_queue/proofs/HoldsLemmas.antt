@@ -11,6 +11,7 @@ use Rattle.lxr_base.specs.Roomy.{Roomy, emptied}
 use Rattle.lxr_graph.specs.Names.{has, union}
 use Rattle.lxr_graph.proofs.NameSets.{has-union}
 use Rattle.lxr_image.specs.declared.space.Space.{Space}
+use Rattle.lxr_image.specs.Registers.{HoldFew}
 use Rattle.lxr_image.specs.Tables.{Tables, tables_in}
 use Rattle.lxr_image.specs.Spaces.{IsSpace, Turns, tables_of}
 use Rattle.lxr_image.specs.Opened.{HasRoom}
@@ -170,10 +171,10 @@ all_kept : (s : Space) → KeepsListsAndCounters (tables_of s) (appended (tables
 all_kept s = record { heap = refl; reuse = refl; runs = refl; frees = refl; remembered = refl; cursors = λ k other. cursors_keep s k }
 
 -- entries, registers, and then the logs are emptied
-pub queues : (s e r : Space) (logs : Roomy LogEntry) (m : Moment) (at : Name → ℕ) (promoted stuck : List Name) → IsRaised s m at promoted stuck
+pub queues : (s e r : Space) (logs : Roomy LogEntry) (m : Moment) (at : Name → ℕ) (promoted stuck : List Name) → IsRaised s m at promoted stuck → HoldFew s.deferred s.limits.threads
     → Turns s e (with_entries (tables_of s) s.logged.items) → Turns e r (with_registers (tables_of e) e.deferred.items e.registers.items) → logs ≡ emptied r.logged
     → Queues s (record r { logged = logs }) m at promoted stuck
-queues s e r logs m at promoted stuck is first second cleared =
+queues s e r logs m at promoted stuck is few first second cleared =
     let u = all_queued s in
     let both = turns_then s e r (with_entries (tables_of s) s.logged.items) (with_registers (tables_of e) e.deferred.items e.registers.items) first second in
     let lists : with_registers (tables_of e) e.deferred.items e.registers.items ≡ u =
@@ -182,7 +183,7 @@ queues s e r logs m at promoted stuck is first second cleared =
     let are : tables_in s.limits r.words ≡ appended (tables_of s) u.decs u.cursors u.unlogged =
     sym (ap (λ x. tables_in x.limits r.words) both.rest) ∙ both.tables ∙ lists ∙ all_keep s in
     let queued : AreQueued s m at promoted stuck (appended (tables_of s) u.decs u.cursors u.unlogged) =
-    subst (AreQueued s m at promoted stuck) (all_keep s) (are_queued s m at promoted stuck is) in
+    subst (AreQueued s m at promoted stuck) (all_keep s) (are_queued s m at promoted stuck is few) in
     let empty : logs ≡ emptied s.logged = cleared ∙ ap (λ x. emptied x.logged) both.rest in
     let ends : record r { logged = logs } ≡ after s m at promoted stuck is u.decs u.cursors u.unlogged queued r.words are = λ j. record (both.rest j) { logged = empty j } in
     let final : tables_of (record r { logged = logs }) ≡ appended (tables_of s) u.decs u.cursors u.unlogged = ap tables_of ends ∙ are in

@@ -8,11 +8,12 @@ use Rattle.std.proofs.lemmas.List.Sums.{sum_by-cons}
 use Rattle.lxr_layout.specs.declared.TheConstants.{DECREMENT_COUNT}
 use Rattle.lxr_layout.specs.declared.LogEntry.{LogEntry}
 use Rattle.lxr_layout.specs.declared.Place.{Place}
+use Rattle.lxr_image.specs.Registers.{holding}
 use Rattle.lxr_image.specs.Tables.{Tables, changed}
 use Rattle.lxr_invariant.specs.Counting.{entries_between}
 use Rattle.lxr_invariant.proofs.EntryLemmas.{one_if}
 use Rattle.lxr_pause_queue.specs.Appending.{dropped, with_entries, with_entry, with_old, with_registers, logged_word}
-use Rattle.lxr_pause_queue.proofs.AppendingLemmas.{old_few}
+use Rattle.lxr_pause_queue.proofs.AppendingLemmas.{dropped_takes, old_few, old_takes}
 
 -- ---- what stays
 
@@ -51,11 +52,14 @@ pub entries_few : (t : Tables) (es : List LogEntry) → (with_entries t es).curs
 entries_few t [] = omega arith
 entries_few t (e ∷ es) = let rest = entries_few (with_entry t e) es in let one = old_few t e.old.0 in omega (arith, rest, one)
 
-pub registers_few : (t : Tables) (befores nows : List Place) → (with_registers t befores nows).cursors DECREMENT_COUNT ≤ t.cursors DECREMENT_COUNT + length befores
+pub registers_few : (t : Tables) (befores nows : List Place) → (with_registers t befores nows).cursors DECREMENT_COUNT ≤ t.cursors DECREMENT_COUNT + holding befores
 registers_few t [] nows = omega arith
 registers_few t (b ∷ befores) [] = omega arith
 registers_few t (b ∷ befores) (n ∷ nows) =
-    let rest = registers_few (with_old t (dropped b n)) befores nows in let one = old_few t (dropped b n) in omega (arith, rest, one)
+    let rest = registers_few (with_old t (dropped b n)) befores nows in
+    let one = old_takes t (dropped b n) in
+    let takes = dropped_takes b n in
+    omega (arith, rest, one, takes)
 
 -- ---- how often a place waits
 

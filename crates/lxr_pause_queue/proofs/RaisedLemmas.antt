@@ -14,6 +14,7 @@ use Rattle.lxr_graph.specs.Names.{has}
 use Rattle.lxr_graph.specs.State.{object_at, refs_of, shape_of}
 use Rattle.lxr_graph.proofs.NameSets.{union_right}
 use Rattle.lxr_image.specs.declared.space.Space.{Space}
+use Rattle.lxr_image.specs.Registers.{HoldFew, holding}
 use Rattle.lxr_image.specs.Tables.{Tables}
 use Rattle.lxr_image.specs.Spaces.{tables_of}
 use Rattle.lxr_image.specs.Image.{place_word}
@@ -68,7 +69,7 @@ in_words p i words blocks refs below cover even in_heap placed = omega arith
 pub record AreQueued (s : Space) (m : Moment) (at : Name → ℕ) (promoted stuck : List Name) (t : Tables) : Type 0 where
   pub drawn : t.cursors DECREMENT_CURSOR ≡ 0
   pub tracing : t.cursors TRACING_WORD ≡ (tables_of s).cursors TRACING_WORD
-  pub fits : t.cursors DECREMENT_COUNT ≤ s.limits.threads * (s.limits.log + 16)
+  pub fits : t.cursors DECREMENT_COUNT ≤ s.limits.threads * (s.limits.log + s.limits.registers)
   pub places : (k : ℕ) → k < t.cursors DECREMENT_COUNT → IsPlaceOf at (with_promoted m promoted) (t.decs k)
   pub waits : (o : Name) → IsTrue (has (with_promoted m promoted) o) → entries_between t.decs 0 (t.cursors DECREMENT_COUNT) (at o) ≡ lowered m o
   pub unlogged : (w : ℕ) → IsTrue (t.unlogged w) ↔ IsUnwritten (settled m promoted stuck) at (with_promoted m promoted) w
@@ -181,17 +182,24 @@ module _ (s : Space) (m : Moment) (at : Name → ℕ) (promoted stuck : List Nam
         | inr unwritten ↦ or_right (list_any (is_at w) m.written) (t.unlogged w) ((is.bits.unlogged w).1 (n, i, record { member = x.member; index = x.index; unwritten = unwritten; word = x.word }))
       ]
 
-  pub are_queued : AreQueued s m at promoted stuck (all_queued s)
-  are_queued =
+  -- registers that held something are no more than threads may name
+  pub few_held : HoldFew s.deferred s.limits.threads → holding s.deferred.items ≤ s.limits.threads * s.limits.registers
+  few_held few =
+      let no_more = few is.as_many.1 in
+      let width = ap (λ n. s.limits.threads * n) is.room.deferred in
+      omega (arith, no_more, width)
+
+  pub are_queued : HoldFew s.deferred s.limits.threads → AreQueued s m at promoted stuck (all_queued s)
+  are_queued no_more =
       let few = registers_few logged_all s.deferred.items s.registers.items in
       let few_entries = entries_few t s.logged.items in
       let none = is.decrements.1 in
       let few_logs = is.few_logs in
-      let sixteen = is.as_many.1 in
+      let named = few_held no_more in
       record {
         drawn = registers_cursors logged_all s.deferred.items s.registers.items 5 refl ∙ entries_cursors t s.logged.items 5 refl ∙ is.decrements.0;
         tracing = registers_cursors logged_all s.deferred.items s.registers.items 8 refl ∙ entries_cursors t s.logged.items 8 refl;
-        fits = omega (arith, few, few_entries, none, few_logs, sixteen);
+        fits = omega (arith, few, few_entries, none, few_logs, named);
         places = queued_places;
         waits = queued_waits;
         unlogged = λ w. (λ h. unlogged_then w (sym (unlogged_is w) ∙ h), λ h. unlogged_is w ∙ then_unlogged w h);

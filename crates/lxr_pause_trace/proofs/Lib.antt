@@ -8,4 +8,5 @@ pub mod PassingLemmas
 pub mod HoldsLemmas
 pub mod NamedLemmas
 pub mod NameSlotLemmas
+pub mod ShadingLemmas
 pub mod TraceLemmas

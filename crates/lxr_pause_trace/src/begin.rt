@@ -16,11 +16,13 @@ fn shade_registers(space: &mut Space)
     requires places { HoldPlaces space.old }
     ensures { ShadesRegisters space.old space.new (length space.old.registers.items) }
 {
-    for register in 0..space.registers.len() {
-        match space.registers.get(register) {
-            Some(place) if place.0 != 0 => space.set_gray(granule_of(place)),
-            _ => {}
+    let mut register = space.registers.next_in_use(0);
+    while register < space.registers.len() {
+        let place = space.registers.at(register);
+        if place.0 != 0 {
+            space.set_gray(granule_of(place));
         }
+        register = space.registers.next_in_use(register + 1);
     }
 }
 

@@ -7,7 +7,7 @@ use Rattle.std.proofs.lemmas.Bool.{or_left, or_right}
 use Rattle.lxr_layout.specs.declared.Name.{Name}
 use Rattle.lxr_layout.specs.declared.Place.{Place}
 use Rattle.lxr_layout.specs.declared.Shape.{Shape}
-use Rattle.lxr_layout.specs.declared.TheConstants.{GRANULES_IN_BLOCK, GRANULES_IN_LINE, LINES_IN_BLOCK, STUCK}
+use Rattle.lxr_layout.specs.declared.TheConstants.{GRANULES_IN_BLOCK, GRANULES_IN_LINE, LINES_IN_BLOCK, REGISTERS, STUCK}
 use Rattle.lxr_layout.specs.Objects.{FitsShape}
 use Rattle.lxr_graph.specs.declared.Op.TheVariants as op
 use Rattle.lxr_graph.specs.declared.Reply.TheVariants as reply
@@ -367,7 +367,7 @@ abbrev pub with_places : Space → List Place → Space
 with_places space places = record space { registers = record space.registers { items = places } }
 
 -- so the space is at rest where an object was placed and a register holds it
-placed_rests : (before after : Space) (g : AbstractState) (thread dest : ℕ) (shape : Shape) (p : Place) → IsAtRest before g → (1 ≤ thread) × (thread ≤ before.limits.threads) → dest < 16
+placed_rests : (before after : Space) (g : AbstractState) (thread dest : ℕ) (shape : Shape) (p : Place) → IsAtRest before g → (1 ≤ thread) × (thread ≤ before.limits.threads) → dest < REGISTERS
     → FitsShape shape → IsName (new_name g thread) → IsPlaced before after (new_name g thread) shape p
     → IsAtRest (with_places after (slice_set after.registers.items (register_index thread dest) p)) (record g { moment = moment_then g thread dest shape; at = places_then g thread p.0 })
 placed_rests before after g thread dest shape p is within small fits name at_place =
@@ -385,7 +385,7 @@ is_name : (name : Name) (threads : ℕ) → name.thread ≤ threads → threads 
 is_name name threads within few serial = record { thread = omega arith; serial = serial }
 
 -- so it is whatever the space stood for
-placed_serves : (before after : Space) (name : Name) (dest : ℕ) (shape : Shape) (p : Place) → (1 ≤ name.thread) × (name.thread ≤ before.limits.threads) → dest < 16 → FitsShape shape → name.serial < 2 ^ 32
+placed_serves : (before after : Space) (name : Name) (dest : ℕ) (shape : Shape) (p : Place) → (1 ≤ name.thread) × (name.thread ≤ before.limits.threads) → dest < REGISTERS → FitsShape shape → name.serial < 2 ^ 32
     → IsPlaced before after name shape p → (g : AbstractState) → IsServable before g name
     → IsServedFrom (with_places after (slice_set after.registers.items (register_index name.thread dest) p)) g name dest shape p
 placed_serves before after name dest shape p within small fits serial at_place g is =
@@ -429,7 +429,7 @@ served_keeps before after name dest shape p served = subst (KeepsOthers before) 
     (placed_keeps before served.middle name shape p (slice_set served.middle.registers.items (register_index name.thread dest) p) served.placed)
 
 -- the `new` whose object was placed is served
-pub placed_is_served : (before after : Space) (name : Name) (dest : ℕ) (shape : Shape) (p : Place) → (1 ≤ name.thread) × (name.thread ≤ before.limits.threads) → dest < 16 → FitsShape shape → name.serial < 2 ^ 32
+pub placed_is_served : (before after : Space) (name : Name) (dest : ℕ) (shape : Shape) (p : Place) → (1 ≤ name.thread) × (name.thread ≤ before.limits.threads) → dest < REGISTERS → FitsShape shape → name.serial < 2 ^ 32
     → (IsFull before shape → ⊥) → IsPlaced before after name shape p
     → IsServed before (with_places after (slice_set after.registers.items (register_index name.thread dest) p)) name dest shape p
 placed_is_served before after name dest shape p within small fits serial room at_place = record {

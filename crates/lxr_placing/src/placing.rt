@@ -16,13 +16,14 @@ pub fn serve(space: &mut Space, name: Name, dest: u8, shape: Shape) -> Option<Pl
     requires stands { (g : AbstractState) × IsServable space.old g name }
     requires thread { (1 ≤ name.thread) × (name.thread ≤ space.old.limits.threads) }
     requires serial { name.serial < 2 ^ 32 }
-    requires dest { dest < 16 }
+    requires dest { dest < space.old.limits.registers }
     requires shape { FitsShape shape }
     ensures serves { Serves space.old space.new name dest shape result }
 {
     let place = place_now(space, name, shape)?;
-    let register = 16 * (usize::from(name.thread) - 1) + usize::from(dest);
-    space.registers.set(register, place);
+    space
+        .registers
+        .set(usize::from(name.thread) - 1, dest, place);
     Some(place)
 }
 

@@ -2,6 +2,7 @@
 use Rattle.std.proofs.Common.{◌≡◌, ℕ, ◌+◌, ◌-◌, ◌*◌, ◌≤◌, refl, sym, ap, subst, ◌∙◌, inl, inr, arith, true, false, List, [], ◌∷◌, IsTrue, length, map}
 use Rattle.std.specs.Prelude.{Option, Some, None, is_some, replicate}
 use Rattle.std.proofs.lemmas.List.{length-map, length-replicate}
+use Rattle.lxr_layout.specs.declared.TheConstants.{REGISTERS}
 use Rattle.lxr_layout.specs.declared.Name.{Name}
 use Rattle.lxr_graph.specs.Names.{has}
 use Rattle.lxr_graph.specs.State.{Graph, Object, State, object_at, world_name}
@@ -41,7 +42,7 @@ module _ (s : State) (number : ℕ) (ns stuck : List Name) (follows : FollowsPau
   pub follows_renewed : (threads : ℕ) → 1 ≤ threads → length s.graph ≡ threads + 1 → FollowsPause (still (renewed_state threads ns s) 0 new_names (map (renewed_name ns) stuck))
   follows_renewed threads some rows =
       let order = follows.unreclaimed in
-      let many : length (map (renewed_held ns) s.registers) ≡ 16 * (length (renewed_graph threads ns s.graph) - 1) =
+      let many : length (map (renewed_held ns) s.registers) ≡ REGISTERS * (length (renewed_graph threads ns s.graph) - 1) =
       length-map s.registers (renewed_held ns) ∙ (let a = follows.registers in let b = renewed_rows threads ns s.graph some in omega (arith, a, b, rows)) in
       record {
         unreclaimed = renewed_in_order ns order;

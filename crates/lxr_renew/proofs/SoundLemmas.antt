@@ -3,6 +3,7 @@
 use Rattle.std.proofs.Common.{◌≡◌, ℕ, ◌*◌, ◌≤◌, refl, sym, ap, subst, ◌∙◌, List, [], ◌∷◌, IsTrue, length, map}
 use Rattle.std.specs.Prelude.{None, is_some}
 use Rattle.std.proofs.lemmas.List.{length-map}
+use Rattle.lxr_layout.specs.declared.TheConstants.{REGISTERS}
 use Rattle.lxr_layout.specs.declared.Name.{Name}
 use Rattle.lxr_graph.specs.Names.{AreInOrder, has}
 use Rattle.lxr_graph.specs.State.{HasObject, object_at, shape_of, world, world_name}
@@ -27,7 +28,7 @@ use Rattle.lxr_renew.proofs.StateLemmas.{IsLeft, held_renewed, object_renewed, r
 -- a moment at which nothing was done since the pause that left these names
 record IsLeftAt (threads : ℕ) (m : Moment) (us : List Name) : Type 0 where
   rests : m.last ≡ m.state
-  registers : length m.state.registers ≡ 16 * threads
+  registers : length m.state.registers ≡ REGISTERS * threads
   world : HasWorld m.state.graph
   closed : IsClosed m.state (has us)
   world_stuck : IsTrue (has m.stuck world_name)

@@ -23,7 +23,7 @@ pub record StandsAfter (threads : ℕ) (h : List Item) (g : AbstractState) : Typ
 
 -- the limits of the space of so many threads
 abbrev pub plan_limits : Plan → ℕ → Limits
-plan_limits plan threads = record { blocks = plan.blocks; threads = threads; log = plan.log; remember = plan.remember; evacuate = plan.evacuate }
+plan_limits plan threads = record { blocks = plan.blocks; threads = threads; log = plan.log; remember = plan.remember; registers = plan.registers; evacuate = plan.evacuate }
 
 -- the space that a history leaves at its last pause: it is between epochs, and its tally has the history's numbers
 pub record IsLeftWith (plan : Plan) (threads : ℕ) (h : List Item) (space : Space) (g : AbstractState) : Type 0 where

@@ -46,7 +46,7 @@ operations_at script mutators i a is at =
 
 -- none of them is an end
 pub none_end : (m : Mutating) → IsMutator m → All (λ o. o ≢ op.End) m.operations
-none_end m is = All-weaker IsOperation (λ o. o ≢ op.End) (λ o operation. operation.1) m.operations is.setup.operations
+none_end m is = All-weaker (IsOperation m.width) (λ o. o ≢ op.End) (λ o operation. operation.1) m.operations is.setup.operations
 
 -- there is a mutator for each thread
 pub as_many : (task : Task) (h : List Item) (mutators : List Mutating) → HaveMutators task h mutators → length mutators ≡ threads_of task

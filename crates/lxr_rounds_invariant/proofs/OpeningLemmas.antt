@@ -42,7 +42,7 @@ pub record IsOpenedFor (task : Task) (space : Space) (g : AbstractState) : Type 
 -- a mutator as it is made rests for the empty history
 pub first_rests : (l : Limits) (every t most : ℕ) (names : Bool) (operations : List Op) → IsMutator (first_of t operations l every most names) → RestsAfter l every [] t (first_of t operations l every most names)
 first_rests l every t most names operations is = record {
-  mutator = record { sound = is; regions = refl; steady = (λ e. absurd (cc), λ e. absurd (cc)) };
+  mutator = record { sound = is; regions = refl; width = refl; steady = (λ e. absurd (cc), λ e. absurd (cc)) };
   thread = refl;
   every = refl;
   log = refl;

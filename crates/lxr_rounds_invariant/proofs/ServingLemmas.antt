@@ -6,6 +6,7 @@ use Rattle.std.proofs.lemmas.List.{length-take-le, length_push, take_more}
 use Rattle.std.proofs.lemmas.Bool.{eq-eqb}
 use Rattle.std.proofs.lemmas.Bool.Decides.{nat_tests}
 use Rattle.std.proofs.lemmas.Option.{get_or_from_slice_get, slice_get_within}
+use Rattle.lxr_layout.specs.declared.TheConstants.{REGISTERS}
 use Rattle.lxr_layout.specs.declared.Name.{Name}
 use Rattle.lxr_layout.specs.declared.Place.{Place}
 use Rattle.lxr_layout.specs.declared.Shape.{Shape}
@@ -18,6 +19,7 @@ use Rattle.lxr_graph.specs.History.{Item, Call, Pause, PauseReport, calls_of, re
 use Rattle.lxr_graph.specs.Names.{has, same_name}
 use Rattle.lxr_graph.specs.State.{Object, next_name, object_at}
 use Rattle.lxr_graph.specs.Step.{IsReply, IsWellFormed}
+use Rattle.lxr_graph.proofs.FormLemmas.{formed_more}
 use Rattle.lxr_graph.proofs.NameSets.{same_names}
 use Rattle.lxr_graph.proofs.RowLemmas.{next_none}
 use Rattle.lxr_image.specs.declared.space.Space.{Space}
@@ -35,7 +37,7 @@ use Rattle.lxr_serve.proofs.MutatorLemmas.{answered_mutator, with_registers}
 use Rattle.lxr_serve.proofs.SpaceLemmas.{IsNewServed}
 use Rattle.lxr_mutator.specs.declared.phases.MutEnd.TheVariants as ends
 use Rattle.lxr_mutator.specs.Mutating.{IsWaiting, Mutating, is_new, next_name as next_made, op_now}
-use Rattle.lxr_mutator.specs.Mutators.{AreRegisters, answered}
+use Rattle.lxr_mutator.specs.Mutators.{AreRegisters, IsMutator, answered}
 use Rattle.lxr_mutator.specs.Naming.{all_told_as, blank, told_as}
 use Rattle.lxr_mutator.proofs.NamingLemmas.{told_more, told_news, told_whole}
 use Rattle.lxr_mutator.proofs.NowLemmas.{formed_now}
@@ -54,6 +56,10 @@ use Rattle.lxr_rounds_history.proofs.SightLemmas.{same_evacuated, sees_call}
 use Rattle.lxr_rounds_history.proofs.TallyLemmas.{has_numbers}
 use Rattle.lxr_rounds_invariant.specs.LoopInvariant.{HasCome, IsCollectedSince, Task, task_limits, terms_of, threads_of}
 use Rattle.lxr_rounds_invariant.proofs.EvacuatedLemmas.{evacuated_still}
+
+-- the operation whose turn it is names registers that there are
+well_formed_now : (m : Mutating) → IsMutator m → IsWellFormed (op_now m)
+well_formed_now m is = formed_more m.width REGISTERS (op_now m) is.setup.width.1 (formed_now m is)
 
 -- ---- a `new` whose turn has come
 
@@ -107,7 +113,7 @@ module _ (task : Task) (space : Space) (seen : Option (List Sight)) (t : ℕ) (m
   pub may_answer : (r : Reply) → Replies (terms_of task) h t (op_now m) r → MayBeCalled task.renews task.plan task.script h t (op_now m) r
   may_answer r replies = record {
     thread = may.thread;
-    formed = formed_now m may.rests.mutator.sound;
+    formed = well_formed_now m may.rests.mutator.sound;
     replies = replies;
     promise = may.promise r;
     next = next_is;
@@ -208,7 +214,7 @@ pub full_cause : (task : Task) (space : Space) (seen : Option (List Sight)) (t :
     → MayServe task space seen t m collected served h g → op_now m ≡ op.New dest shape → IsFull space shape → HasCause (terms_of task) task.script h
 full_cause task space seen t m collected served h g dest shape may is full =
     let come = may.come in
-    let formed : IsWellFormed (op.New dest shape) = subst IsWellFormed is (formed_now m may.rests.mutator.sound) in
+    let formed : IsWellFormed (op.New dest shape) = subst IsWellFormed is (well_formed_now m may.rests.mutator.sound) in
     room_cause task.renews task.plan task.script h space g t dest shape may.thread.0 may.thread.1 (next_is task space seen t m collected served h g may ∙ ap Some is) may.between come.stands.moment
     come.limits formed.1 full
 
@@ -218,7 +224,7 @@ pub full_promise : (task : Task) (space : Space) (seen : Option (List Sight)) (t
     → (report : PauseReport) (r : Reply) → KeepsPromise (terms_of task) (Pause report ∷ h) (Call t (op_now m) r)
 full_promise task space seen t m collected served h g dest shape may is full report r =
     let come = may.come in
-    let formed : IsWellFormed (op.New dest shape) = subst IsWellFormed is (formed_now m may.rests.mutator.sound) in
+    let formed : IsWellFormed (op.New dest shape) = subst IsWellFormed is (well_formed_now m may.rests.mutator.sound) in
     let waited : IsWaitedFor (terms_of task) h (Call t (op.New dest shape) r) =
     is_waited_for task.renews task.plan task.script h space g t dest shape r come.history.0 may.between come.stands.moment come.limits formed.1 full in
     λ stands. subst (λ o. IsWaitedFor (terms_of task) h (Call t o r)) (sym is) waited
@@ -230,7 +236,7 @@ one_more : {X : Type 0} (xs : List X) (k : ℕ) (x : X) → slice_get xs k ≡ S
 one_more xs k x at = take_more xs k x (slice_get_within xs k x at) ∙ ap (λ y. take k xs ++ y ∷ []) (get_or_from_slice_get xs k x x at)
 
 -- a mutator whose `new` is answered, with a reply that has no name to leave out, rests for the history with that call
-pub rests_answered : (l : Limits) (every : ℕ) (h : List Item) (t : ℕ) (m : Mutating) (registers : List Place) (r : Reply) → RestsAfter l every h t m → IsWaiting m → AreRegisters registers → blank r ≡ r
+pub rests_answered : (l : Limits) (every : ℕ) (h : List Item) (t : ℕ) (m : Mutating) (registers : List Place) (r : Reply) → RestsAfter l every h t m → IsWaiting m → AreRegisters m.width registers → blank r ≡ r
     → RestsAfter l every (Call t (op_now m) r ∷ h) t (answered (with_registers m registers) r)
 rests_answered l every h t m registers r rests waits are whole =
     let own : nat_eq t t ≡ true = eq-eqb t t refl in

@@ -2,7 +2,7 @@
 use Rattle.std.specs.Prelude.{◌≡◌, List, []}
 use Rattle.lxr_large_model.specs.declared.LargeOp.{LargeOp}
 use Rattle.lxr_large_run.specs.Played.{IsCutOff, IsPlayed}
-use Rattle.lxr_large_run.specs.Playing.{LargeTask}
+use Rattle.lxr_large_run.specs.Playing.{LargeTask, large_terms}
 use Rattle.lxr_words.specs.declared.Options.{Options}
 use Rattle.lxr_run.specs.Runs.{Run}
 use Rattle.lxr_run.specs.Script.{WasAskedLarge}
@@ -10,7 +10,7 @@ use Rattle.lxr_run.specs.Script.{WasAskedLarge}
 -- what playing begins with
 abbrev pub large_task_of : {I O W : Type 0} → Run I O W → Options → List LargeOp → LargeTask
 large_task_of run options operations = record {
-  terms = record { blocks = options.blocks; bodies = options.bodies };
+  terms = large_terms options.blocks options.bodies;
   counts = options.counts;
   operations = operations;
   written = run.output.bytes run.output.before;

@@ -3,6 +3,7 @@ use Rattle.std.specs.Prelude.{◌/◌, false, List}
 use Rattle.lxr_graph.specs.History.{Item}
 use Rattle.lxr_model.specs.Terms.{Terms}
 use Rattle.lxr_model.specs.Belongs.{Script}
+use Rattle.lxr_text_script.specs.declared.TheConstants.{SCRIPT_REGISTERS}
 use Rattle.lxr_words.specs.declared.Options.{Options}
 use Rattle.lxr_rounds_history.specs.Plan.{Plan}
 use Rattle.lxr_rounds_history.specs.Histories.{IsHistoryWith, script_terms_with}
@@ -14,6 +15,7 @@ plan_of options = record {
   evacuate = options.blocks / 8;
   log = options.log;
   remember = options.remember;
+  registers = SCRIPT_REGISTERS;
   every = options.every;
   trace = options.trace;
   within = options.within;

@@ -11,6 +11,8 @@ use Rattle.lxr_layout.specs.Spaces.{AreLimits, regions_of}
 use Rattle.lxr_base.specs.Roomy.{Roomy}
 use Rattle.lxr_graph.specs.declared.Op.{Op}
 use Rattle.lxr_graph.specs.declared.Op.TheVariants as op
+use Rattle.lxr_graph.proofs.FormLemmas.{formed_more}
+use Rattle.lxr_text_script.specs.declared.TheConstants.{SCRIPT_REGISTERS}
 use Rattle.lxr_text_script.specs.Limits.{IsScript, IsThread, IsWritten}
 use Rattle.lxr_text_script.specs.Limits as script
 use Rattle.lxr_mutator.specs.Dialogues.{most_operations}
@@ -56,8 +58,8 @@ use Rattle.lxr_run_loop.proofs.TextLemmas.{told_none}
 -- the words of the tables have indexes of 32 bits
 indexes : (l : Limits) → AreLimits l → HaveIndexes (regions_of l)
 indexes l limits =
-    let log : l.log + 16 ≤ 65552 = omega (arith, limits.log.1) in
-    let decs : l.threads * (l.log + 16) ≤ 255 * 65552 = mul-le-mul limits.threads.1 log in
+    let log : l.log + l.registers ≤ 65792 = omega (arith, limits.log.1, limits.registers.1) in
+    let decs : l.threads * (l.log + l.registers) ≤ 255 * 65792 = mul-le-mul limits.threads.1 log in
     record {
       unlogged = omega arith;
       frees = omega arith;
@@ -74,11 +76,12 @@ pub few_written : (t n : ℕ) → n ≤ script.most_operations → n ≤ most_op
 few_written t n few = few_by n few (nat_le t 16)
 
 -- it keeps what holds of each mutator
-first_is : (l : Limits) (every t : ℕ) (operations : List Op) → AreLimits l → (1 ≤ t) × (t ≤ l.threads) → All IsOperation operations → length operations ≤ script.most_operations → (1 ≤ every) × (every ≤ 1048576)
+first_is : (l : Limits) (every t : ℕ) (operations : List Op) → AreLimits l → (1 ≤ t) × (t ≤ l.threads) → All (IsOperation l.registers) operations → length operations ≤ script.most_operations → (1 ≤ every) × (every ≤ 1048576)
     → IsMutator (first t operations l every)
 first_is l every t operations limits thread each few range = record {
   setup = record {
     thread = (thread.0, omega (arith, limits.threads.1));
+    width = (let least = limits.registers.0 in omega (arith, least), limits.registers.1);
     operations = each;
     few = omega (arith, few);
     room = omega arith;
@@ -87,7 +90,7 @@ first_is l every t operations limits thread each few range = record {
     every = range;
     before = omega arith;
   };
-  registers = registers_cleared;
+  registers = registers_cleared l.registers;
   spans = (omega arith, omega arith);
   few_replies = omega arith;
   replies = inr (omega arith);
@@ -103,9 +106,10 @@ first_is l every t operations limits thread each few range = record {
 no_end : (o : Op) → script.IsOperation o → o ≢ op.End
 no_end o written e = subst IsWritten e written.written
 
--- the operations of a thread are such as a mutator takes
-pub all_operations : (operations : List Op) → IsThread operations → All IsOperation operations
-all_operations operations thread = All-weaker script.IsOperation IsOperation (λ o is. (is.well_formed, no_end o is)) operations thread.each
+-- the operations of a thread are such as a mutator takes, which may name as many registers as those of scripts, or more
+pub all_operations : (l : Limits) (operations : List Op) → AreLimits l → IsThread operations → All (IsOperation l.registers) operations
+all_operations l operations limits thread =
+    All-weaker script.IsOperation (IsOperation l.registers) (λ o is. (formed_more SCRIPT_REGISTERS l.registers o limits.registers.0 is.well_formed, no_end o is)) operations thread.each
 
 -- what holds of each thread of a script holds of one in it
 thread_in : (taken rest : List (Roomy Op)) (o : Roomy Op) → All IsThread (map (λ (x : Roomy Op). x.items) (taken ++ o ∷ rest)) → IsThread o.items
@@ -166,7 +170,7 @@ made_pushed l every script taken rest o actors actors' m split is limits threads
     let alone = mutators_alone actors made.helpers in
     let many = as_many l every taken (mutators_in actors) made.mutators in
     let long = ap length split ∙ length-append taken (o ∷ rest) in
-    let sound = first_is l every (length actors + 1) o.items limits (omega arith, omega arith) (all_operations o.items thread) thread.count range in
+    let sound = first_is l every (length actors + 1) o.items limits (omega arith, omega arith) (all_operations l o.items limits thread) thread.count range in
     let one_more = made_more l every taken o (mutators_in actors) m made.mutators (first_one ∙ ap (λ n. first (n + 1) o.items l every) alone) (subst IsMutator (sym first_one) sound) in
     let mutators : mutators_in (actors ++ any.Mutator m ∷ []) ≡ mutators_in actors ++ m ∷ [] = mutators_of_both actors (any.Mutator m ∷ []) in
     subst (AreMade l every 0 0 (map (λ (x : Roomy Op). x.items) (taken ++ o ∷ []))) (sym pushed)
@@ -200,7 +204,7 @@ run_fits options script ranges is =
     let many = length-map script (λ (x : Roomy Op). x.items) in
     let least = is.least in
     let greatest = is.greatest in
-    record { blocks = (ranges.blocks.0, let few = ranges.blocks.1 in omega (arith, few)); threads = (omega arith, omega arith); log = ranges.log; remember = ranges.remember; evacuate = omega arith }
+    record { blocks = (ranges.blocks.0, let few = ranges.blocks.1 in omega (arith, few)); threads = (omega arith, omega arith); log = ranges.log; remember = ranges.remember; registers = (omega arith, omega arith); evacuate = omega arith }
 
 -- nothing is noted yet
 none_noted : (command : Command) → IsOrderOf (opening_order command) []

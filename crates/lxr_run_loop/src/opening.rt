@@ -13,7 +13,7 @@ use lxr_image::Space;
 use lxr_layout::Limits;
 use lxr_mutator::Mutator;
 use lxr_rounds::add_helpers;
-use lxr_text_script::Lists;
+use lxr_text_script::{Lists, SCRIPT_REGISTERS};
 use lxr_words::Options;
 use std::alloc::{AllocError, Global};
 
@@ -81,6 +81,7 @@ pub fn open(
         threads: script.len() as u8,
         log: options.log,
         remember: options.remember,
+        registers: SCRIPT_REGISTERS,
         evacuate: options.blocks / 8,
     };
     let actors = make_actors(alloc, script, limits, options.every, options.workers)?;

@@ -9,6 +9,7 @@ use Rattle.lxr_layout.specs.declared.Name.{Name}
 use Rattle.lxr_layout.specs.declared.Place.{Place}
 use Rattle.lxr_layout.specs.declared.Shape.{Shape}
 use Rattle.lxr_layout.specs.declared.limits.Limits.{Limits}
+use Rattle.lxr_layout.specs.Registers.{nil}
 use Rattle.lxr_graph.specs.declared.Op.TheVariants as op
 use Rattle.lxr_graph.specs.declared.Reply.{Reply}
 use Rattle.lxr_graph.specs.declared.Reply.TheVariants as reply
@@ -17,10 +18,11 @@ use Rattle.lxr_mutator.specs.declared.phases.MutEnd.TheVariants as ends
 use Rattle.lxr_mutator.specs.declared.phases.MutatorPhase.{MutatorPhase}
 use Rattle.lxr_mutator.specs.declared.phases.MutatorPhase.TheVariants as phase
 use Rattle.lxr_mutator.specs.declared.phases.Waiting.{Waiting}
-use Rattle.lxr_mutator.specs.Mutating.{IsWaiting, Mutating, is_new, next_name, nil, op_now, rests_in, waiting_by}
+use Rattle.lxr_mutator.specs.Mutating.{IsWaiting, Mutating, is_new, next_name, op_now, rests_in, waiting_by}
 use Rattle.lxr_mutator.specs.Mutators.{AreRegisters, IsAnswered, IsHeld, IsMutator, MayBeIn, answered, held_place}
 use Rattle.lxr_mutator.specs.Naming.{blank}
 use Rattle.lxr_mutator.specs.Operating.{dest_of, shape_made}
+use Rattle.lxr_mutator.proofs.NowLemmas.{dest_now}
 use Rattle.lxr_mutator.proofs.RegisterLemmas.{registers_set}
 use Rattle.lxr_core_sim_mutator.specs.Showing.{IsMutatorOf, IsSteadyIn}
 
@@ -70,7 +72,7 @@ abbrev pub with_registers : Mutating → List Place → Mutating
 with_registers m registers = record m { registers = registers }
 
 -- a mutator whose `new` is answered, and whose registers are other ones, is one still
-pub answered_sound : (m : Mutating) (registers : List Place) (r : Reply) → IsMutator m → IsWaiting m → AreRegisters registers → IsMutator (answered (with_registers m registers) r)
+pub answered_sound : (m : Mutating) (registers : List Place) (r : Reply) → IsMutator m → IsWaiting m → AreRegisters m.width registers → IsMutator (answered (with_registers m registers) r)
 answered_sound m registers r is waits are =
     let more = is.waits waits.0 in
     let many = length_push m.replies.items r in
@@ -89,7 +91,7 @@ answered_sound m registers r is waits are =
 -- its registers, once its `new` is answered, are nil or places, and all else is as it is told with the reply, which has no name to leave out
 pub record AnswersWith (m m' : Mutating) (r : Reply) : Type 0 where
   pub registers : List Place
-  pub are : AreRegisters registers
+  pub are : AreRegisters m.width registers
   pub mutator : m' ≡ answered (with_registers m registers) r
   pub whole : blank r ≡ r
 
@@ -105,17 +107,18 @@ answers_with m m' r is (inr (place, e, now)) =
     let dest = dest_of (op_now m) in
     record {
       registers = slice_set m.registers dest (held_place place);
-      are = registers_set m.registers dest (held_place place) is.registers (held_so place (nat_le place.0 (MOST_GRANULES)) refl);
+      are = registers_set m.width m.registers dest (held_place place) (dest_now m is) is.registers (held_so place (nat_le place.0 (MOST_GRANULES)) refl);
       mutator = now ∙ ap (answered (with_registers m (slice_set m.registers dest (held_place place)))) (sym e);
       whole = subst (λ x. blank x ≡ x) (sym e) refl;
     }
 
 -- it is a mutator of the same space still
-pub answered_mutator : (l : Limits) (m : Mutating) (registers : List Place) (r : Reply) → IsMutatorOf l m → IsWaiting m → AreRegisters registers
+pub answered_mutator : (l : Limits) (m : Mutating) (registers : List Place) (r : Reply) → IsMutatorOf l m → IsWaiting m → AreRegisters m.width registers
     → IsMutatorOf l (answered (with_registers m registers) r)
 answered_mutator l m registers r is waits are = record {
   sound = answered_sound m registers r is.sound waits are;
   regions = is.regions;
+  width = is.width;
   steady = answered_steady (with_registers m registers) r m.phase waits.1;
 }
 

@@ -23,7 +23,7 @@ use lxr_placing::serve;
 fn serve_one(space: &mut Space, mutator: &mut Mutator, waiting: Waiting) -> bool
     requires turn { CanTakeTurn space.old mutator.old }
     requires waiting { waiting_by mutator.old mutator.old.end ≡ Some waiting }
-    requires fits { (waiting.dest < 16) × FitsShape waiting.shape }
+    requires fits { (waiting.dest < mutator.old.width) × FitsShape waiting.shape }
     ensures serves { ServesIfRoom space.old space.new mutator.old mutator.new waiting result }
 {
     let name = mutator.next_name();
@@ -46,7 +46,7 @@ fn serve_or_refuse(
 ) -> Option<bool>
     requires turn { CanTakeTurn space.old mutator.old }
     requires waiting { waiting_by mutator.old mutator.old.end ≡ Some waiting }
-    requires fits { (waiting.dest < 16) × FitsShape waiting.shape }
+    requires fits { (waiting.dest < mutator.old.width) × FitsShape waiting.shape }
     ensures { ComesOut collected served space.old space.new mutator.old mutator.new result }
 {
     if serve_one(space, mutator, waiting) {

@@ -17,7 +17,8 @@ use Rattle.lxr_core.specs.declared.actors.AnyActor.TheVariants as any
 use Rattle.lxr_core.specs.Closing.{AreResting}
 use Rattle.lxr_core.specs.Filling.{unfilled}
 use Rattle.lxr_core.specs.Opening.{Opens}
-use Rattle.lxr_core.specs.Starting.{registers_in, started_again}
+use Rattle.lxr_image.specs.Registers.{row_in}
+use Rattle.lxr_core.specs.Starting.{started_again}
 use Rattle.lxr_core.proofs.MappedLemmas.{mapped}
 use Rattle.lxr_shared.specs.declared.turns.Turn.TheVariants as turn
 use Rattle.lxr_shared.specs.Ends.{HaveEnds, IsBetweenUnits, KnowsEnd}
@@ -59,5 +60,5 @@ opened_have_ends before after resting started opens i x there =
     let within : i < length resting = omega (arith, inside, many) in
     let a = slice_index_or resting i x in
     let was : slice_get resting i ≡ Some a = slice_get-get_or resting i x within in
-    let again : slice_get (map unfilled started) i ≡ Some (started_again a (registers_in before.registers.items i)) = opens.actors.started i a was within in
-    again_knows x a (registers_in before.registers.items i) (cc)
+    let again : slice_get (map unfilled started) i ≡ Some (started_again a (row_in before.registers.items i)) = opens.actors.started i a was within in
+    again_knows x a (row_in before.registers.items i) (cc)

@@ -6,7 +6,8 @@ use Rattle.lxr_core.specs.declared.actors.AnyActor.{AnyActor}
 use Rattle.lxr_core.specs.declared.actors.AnyActor.TheVariants as any
 use Rattle.lxr_core.specs.Actors.{decrementers_in, tracers_in}
 use Rattle.lxr_core.specs.Filling.{unfilled}
-use Rattle.lxr_core.specs.Starting.{HaveStarted, registers_in, started_again}
+use Rattle.lxr_image.specs.Registers.{row_in}
+use Rattle.lxr_core.specs.Starting.{HaveStarted, started_again}
 use Rattle.lxr_core.proofs.OrderLemmas.{AreAlike, SameKind, two_helpers, two_mutators, two_tracers}
 
 pub record AreAsMany (before after : List AnyActor) : Type 0 where
@@ -49,7 +50,7 @@ started_helpers places before after have =
     let again = alike_many before (map unfilled after)
     (record {
       as_many = have.as_many;
-      each = λ i a at. (started_again a (registers_in places i), have.started i a at (slice_get_within before i a at), again_kind a (registers_in places i));
+      each = λ i a at. (started_again a (row_in places i), have.started i a at (slice_get_within before i a at), again_kind a (row_in places i));
     }) in
     let filled = unfilled_many after in
     record { decrementers = sym filled.decrementers ∙ again.decrementers; tracers = sym filled.tracers ∙ again.tracers }

@@ -13,7 +13,7 @@ use Rattle.lxr_mutator.specs.declared.phases.Stop.TheVariants as stop
 use Rattle.lxr_mutator.specs.declared.phases.MutatorPhase.{MutatorPhase}
 use Rattle.lxr_mutator.specs.declared.phases.MutatorPhase.TheVariants as phase
 use Rattle.lxr_mutator.specs.Mutating.{Mutating, rests_in as mut_rests_in}
-use Rattle.lxr_mutator.specs.Orders.{takes_order, with_order}
+use Rattle.lxr_mutator.specs.Orders.{ordered_if, takes_order, with_order}
 use Rattle.lxr_mutator.specs.Steps as mutator
 use Rattle.lxr_mutator.specs.Laws.{StepsByRule}
 use Rattle.lxr_mutator.specs.Laws.StepsByRule.{does_one, finds_asked, finds_end, gave_up, goes_on, stands_still}
@@ -102,7 +102,7 @@ no_action_in m o phase.Finished h = refl
 no_action_in m o (phase.Storing s) h = h
 no_action_in m o p h = absurd (cc)
 
-ordered_mutator : (m : Mutating) (o : Op) (c : Bool) → IsBetweenUnits (any.Mutator m) → IsBetweenUnits (any.Mutator (if◌then◌else◌ {A = Mutating × Bool} c (with_order m o, true) (m, false)).0)
+ordered_mutator : (m : Mutating) (o : Op) (c : Bool) → IsBetweenUnits (any.Mutator m) → IsBetweenUnits (any.Mutator (ordered_if m o c).0)
 ordered_mutator m o true is = record { rests = is.rests; ended = λ none. is.ended (no_action_in m o m.phase none) }
 ordered_mutator m o false is = is
 

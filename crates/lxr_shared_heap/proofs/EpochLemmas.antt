@@ -17,7 +17,8 @@ use Rattle.lxr_core.specs.Executions.{Execution, HoldsExecution, tell_all}
 use Rattle.lxr_core.specs.Filling.{unfilled}
 use Rattle.lxr_core.specs.Opening.{Begins, Opens, execution_at}
 use Rattle.lxr_core.specs.Ordering.{TellNames}
-use Rattle.lxr_core.specs.Starting.{registers_in, started_again}
+use Rattle.lxr_image.specs.Registers.{row_in}
+use Rattle.lxr_core.specs.Starting.{started_again}
 use Rattle.lxr_core.proofs.ExecutionLemmas.{epoch_invariant_holds}
 use Rattle.lxr_core.proofs.LastingLemmas.{names_opened}
 use Rattle.lxr_shared.specs.Sharing.{Sharing}
@@ -71,7 +72,7 @@ shown_again (a ∷ resting) (x ∷ started) many each =
 opened_shown : (before after : Space) (resting started : List AnyActor) → Opens before after resting started → shown_of (mutators_in started) ≡ shown_of (mutators_in resting)
 opened_shown before after resting started opens =
     ap shown_of (sym (unfilled_mutators started))
-    ∙ shown_again resting (map unfilled started) opens.actors.as_many (λ i a at. (registers_in before.registers.items i, opens.actors.started i a at (slice_get_within resting i a at)))
+    ∙ shown_again resting (map unfilled started) opens.actors.as_many (λ i a at. (row_in before.registers.items i, opens.actors.started i a at (slice_get_within resting i a at)))
 
 -- its actors are those that there were, as they begin again
 pub began_with : (before opened : Space) (resting started : List AnyActor) (epoch : Sharing) → Opens before opened resting started → epoch.opening ≡ core_of opened.words started → BeganWith resting epoch

@@ -54,8 +54,8 @@ use Rattle.lxr_shared_heap.specs.declared.station.NotOut.{NotOut}
 use Rattle.lxr_shared_heap.specs.declared.station.NotOut.TheVariants as kept
 use Rattle.lxr_shared_heap.specs.declared.station.Arrival.{Arrival}
 use Rattle.lxr_shared_heap.specs.Arriving.{HasComeHome, IsHandedIn, Tells}
-use Rattle.lxr_shared_heap.specs.Stations.{IsNotOut, Lived, Stationed}
-use Rattle.lxr_shared_heap.specs.Gathering.{HaveEndedFrom, HoldGivenUp, IsUnclosed}
+use Rattle.lxr_shared_heap.specs.Stations.{IsNotOut, Lived, Stationed, housed_in}
+use Rattle.lxr_shared_heap.specs.Gathering.{HaveEndedFrom, HoldGivenUp, IsUnclosed, IsWantedByAll}
 use Rattle.lxr_shared_heap.specs.declared.settings.Settings.{Settings}
 use Rattle.lxr_shared_heap.specs.Heaps.{AreAsHandedIn, ComesToRest, HasOpened, HasPaused, HasPausedWith, Heaped, HeapsHaveHistories, IsAtRest, IsHeapOf, IsKept, IsRenewed, Pauses, PausesWith, Resumes, StandsFor, TellsRenewed, actors_of, paused_for, space_at, still_asked}
 use Rattle.lxr_shared_heap.specs.Living.{AreLive}
@@ -382,17 +382,17 @@ actors_many settings script h live of =
 
 -- where an epoch is not closed, nothing has changed
 pub not_closed : (settings : Settings) (live : Lived) (handed : List (Option Arrival)) (reason : NotClosed) → length live.epoch.opening.actors ≡ actors_of settings → IsUnclosed (length live.epoch.opening.actors) 0 handed reason
-    → (reason ≡ why.NotWanted → ¬ HaveEndedFrom (length live.epoch.opening.actors) 0 handed) → PausesWith handed (paused_for reason) (record { settings = settings; stage = stage.Within live }) (record { settings = settings; stage = stage.Within live })
-not_closed settings live handed (why.Away number) many (from, less, none) unended = ((tt, subst (λ n. number < n) many less, refl), none)
-not_closed settings live handed why.NotWanted many none unended = ((tt, refl), (λ number s at. none number s (omega arith) at), subst (λ n. ¬ HaveEndedFrom n 0 handed) many (unended refl))
-not_closed settings live handed why.Shared many is unended = (tt, refl)
+    → (reason ≡ why.NotWanted → ¬ HaveEndedFrom (length live.epoch.opening.actors) 0 handed) → (reason ≡ why.Shared → IsWantedByAll (housed_in live) 0 handed []) → PausesWith handed (paused_for reason) (record { settings = settings; stage = stage.Within live }) (record { settings = settings; stage = stage.Within live })
+not_closed settings live handed (why.Away number) many (from, less, none) unended wanted = ((tt, subst (λ n. number < n) many less, refl), none)
+not_closed settings live handed why.NotWanted many none unended wanted = ((tt, refl), (λ number s at. none number s (omega arith) at), subst (λ n. ¬ HaveEndedFrom n 0 handed) many (unended refl))
+not_closed settings live handed why.Shared many is unended wanted = ((tt, refl), wanted refl)
 
 -- the wish for a pause with stations that are handed in is one for a pause
 pub pauses_alone : (handed : List (Option Arrival)) (p : Paused) (before after : Heaped) → PausesWith handed p before after → Pauses p before after
 pauses_alone handed paused.Made before after is = (is.0, λ script h of. (is.1 script h of).made)
 pauses_alone handed paused.NotWanted before after is = is.0
 pauses_alone handed (paused.Away number) before after is = is.0
-pauses_alone handed paused.Shared before after is = is
+pauses_alone handed paused.Shared before after is = is.0
 pauses_alone handed paused.NotRunning before after is = is
 pauses_alone handed paused.Ended before after is = is
 pauses_alone handed paused.Lost before after is = is

@@ -77,7 +77,7 @@ new_pushed l every names n actors actors' m new is sound pushed =
 
 -- the limits of its space
 pub settings_fit : (settings : Settings) → AreSettings settings → AreLimits (limits_in settings)
-settings_fit settings ranges = record { blocks = ranges.blocks; threads = ranges.mutators; log = ranges.log; remember = ranges.remember; evacuate = ranges.evacuate }
+settings_fit settings ranges = record { blocks = ranges.blocks; threads = ranges.mutators; log = ranges.log; remember = ranges.remember; registers = ranges.registers; evacuate = ranges.evacuate }
 
 -- it is between two epochs
 pub new_between : (settings : Settings) (space : Space) (mutators actors : List AnyActor) → AreSettings settings → AreNew (limits_in settings) settings.every settings.names settings.mutators mutators

@@ -1,14 +1,16 @@
 -- A unit of an actor changes nothing of what it was asked for, and leaves its replies or adds one to them.
 use Rattle.std.proofs.Common.{◌≡◌, ◌∙◌, ℕ, ◌+◌, ◌-◌, Bool, true, false, Option, Some, None, List, [], ◌∷◌, ◌++◌, length, length-append, inl, inr, ⊎_elim, refl, sym, ap, subst, arith}
 use Rattle.std.specs.Prelude.{◌⊎◌, if◌then◌else◌, nat_le, slice_get, slice_index}
+use Rattle.std.proofs.lemmas.Bool.{cases_lt}
 use Rattle.lxr_graph.specs.declared.Op.{Op}
 use Rattle.lxr_graph.specs.declared.Reply.{Reply}
 use Rattle.lxr_graph.specs.declared.Reply.TheVariants as reply
 use Rattle.lxr_actor.specs.declared.Event.TheVariants.{Order}
 use Rattle.lxr_actor.specs.Run.{run}
+use Rattle.lxr_mutator.specs.declared.phases.MutatorPhase.{MutatorPhase}
 use Rattle.lxr_mutator.specs.declared.phases.MutatorPhase.TheVariants as phase
 use Rattle.std.specs.Option.{option_or}
-use Rattle.lxr_mutator.specs.Mutating.{Mutating, reply_in}
+use Rattle.lxr_mutator.specs.Mutating.{Mutating, reply_in, rests_in}
 use Rattle.lxr_mutator.specs.Orders.{takes_order, with_order}
 use Rattle.lxr_mutator.specs.Mutators.{MayTakeOrder}
 use Rattle.lxr_mutator.proofs.OrderLemmas.{takes_order_decides}
@@ -23,7 +25,8 @@ use Rattle.lxr_shared.proofs.UnitEnds.{acted_actor}
 use Rattle.lxr_shared_passes.specs.Passing.{DoesStep, GoesOn, Passing, Told, Turned}
 use Rattle.lxr_shared_heap.specs.declared.station.Answer.{Answer}
 use Rattle.lxr_shared_heap.specs.declared.station.Answer.TheVariants as answer
-use Rattle.lxr_shared_heap.specs.Stations.{HasAnswered, HasGoneOn, HasNoMore, HasTurned, IsNoOrder, IsOpen, TakesUp, asked, newest_of, replied}
+use Rattle.lxr_shared_heap.specs.Stations.{HasAnswered, HasGoneOn, HasNoMore, HasTurned, IsNoOrder, IsOpen, Refuses, TakesUp, asked, newest_of, replied}
+use Rattle.lxr_shared_heap.specs.Wanting.{HasEnded, IsHeldUp}
 
 -- no reply came, or one came and the actor rests
 pub record Grows (a b : AnyActor) : Type 0 where
@@ -184,9 +187,31 @@ answered p r q o reply told is no_more gone =
     tell (Some x) gone same taken pending = ((r, told, gone.0), same, gone.2 ∙ taken.0, gone.3 ∙ ap (λ rs. rs ++ x ∷ []) taken.1)
     tell None gone same taken pending = ((r, told, gone.0 pending), same, gone.2 ∙ taken.0, gone.3 ∙ taken.1)
 
+-- a mutator at rest is ready or finished
+at_rest : (p : MutatorPhase) → rests_in p ≡ true → (p ≡ phase.Ready) ⊎ (p ≡ phase.Finished)
+at_rest phase.Ready rests = inl refl
+at_rest phase.Finished rests = inr refl
+at_rest p rests = absurd (cc)
+
+-- an actor at rest that is neither held up nor ended and takes no order has a reason of its own
+refuses : (a : AnyActor) (o : Op) → any_machine.rests a ≡ true → (¬ TakesUp a o) → (¬ IsHeldUp a) → (¬ HasEnded a) → Refuses a o
+refuses (any.Mutator m) o rests takes held ended =
+    ⊎_elim
+    (λ ready. ⊎_elim
+    (λ pending. inl pending)
+    (λ idle. ⊎_elim
+    (λ room. inr (inl (λ may. takes (record { ready = ready; idle = idle; operation = may; room = room }))))
+    (λ none. inr (inr none))
+    (cases_lt (length m.operations + 2) m.replies.room))
+    (cases_lt (length m.replies.items) (length m.operations)))
+    (λ over. absurd (held (over, λ end. ended (over, end))))
+    (at_rest m.phase rests)
+refuses (any.Decrementer d) o rests takes held ended = tt
+refuses (any.Tracer d) o rests takes held ended = tt
+
 -- where none was taken, the answer says why
-pub unanswered : (p q : Passing AnyActor) (o : Op) (said : Answer) → (q.actor, false) ≡ any_machine.ordered p.actor o → IsNoOrder q.actor said → HasAnswered p o said q
-unanswered p q o said is why =
+pub unanswered : (p q : Passing AnyActor) (o : Op) (said : Answer) → any_machine.rests p.actor ≡ true → (q.actor, false) ≡ any_machine.ordered p.actor o → IsNoOrder q.actor said → HasAnswered p o said q
+unanswered p q o said rests is why =
     let none = not_taken p.actor q.actor o is in
     tell said none.0 none.1 (subst (λ a. IsNoOrder a said) none.0 why)
   where
@@ -195,7 +220,7 @@ unanswered p q o said is why =
     tell answer.Waits same takes why = absurd why
     tell answer.Pause same takes why = (same, takes, why)
     tell answer.Ended same takes why = (same, takes, why)
-    tell answer.Refused same takes why = (same, takes, why.0, why.1)
+    tell answer.Refused same takes why = (same, takes, why.0, why.1, refuses p.actor o rests takes why.0 why.1)
 
 -- ---- units of any actor
 

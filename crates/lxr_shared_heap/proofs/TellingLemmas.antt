@@ -17,6 +17,7 @@ use Rattle.lxr_actor.specs.Run.{run}
 use Rattle.lxr_mutator.specs.declared.phases.MutEnd.{MutEnd}
 use Rattle.lxr_mutator.specs.declared.phases.MutatorPhase.{MutatorPhase}
 use Rattle.lxr_mutator.specs.declared.phases.MutatorPhase.TheVariants as phase
+use Rattle.lxr_mutator.specs.Dialogues.{most_operations}
 use Rattle.lxr_mutator.specs.Mutating.{Mutating, last_reply, newest_of, reply_in, rests_in}
 use Rattle.lxr_mutator.specs.Naming.{all_told_as}
 use Rattle.lxr_core_invariant.specs.Called.{HasCalled, IsWithinTurn, waiting_in}
@@ -46,11 +47,13 @@ use Rattle.lxr_rounds_invariant.proofs.ActorLemmas.{found, operations_at}
 use Rattle.lxr_shared_heap.specs.declared.settings.Settings.{Settings}
 use Rattle.lxr_shared_heap.specs.declared.heap.Stage.{Stage as HeapStage}
 use Rattle.lxr_shared_heap.specs.declared.heap.Stage.TheVariants as stage
-use Rattle.lxr_shared_heap.specs.Heaps.{DoneIsTold, HasOpened, IsPassOf, MutatorsComeFirst, OpenIsTold, StandsFor, StationsTellHistories, told_behind}
+use Rattle.lxr_shared_heap.specs.Heaps.{DoneIsTold, HasLimits, HasOpened, IsPassOf, MutatorsComeFirst, MutatorsHaveLimits, OpenIsTold, StandsFor, StationsTellHistories, told_behind}
+use Rattle.lxr_shared_heap.specs.Living.{AreLive}
 use Rattle.lxr_shared_heap.specs.Settings.{plan_in, run_of}
 use Rattle.lxr_shared_heap.specs.Telling.{EndsByNewest, HasReplied, HaveReplied, TellsAnswer, TellsHistory, TellsNewest}
 use Rattle.lxr_shared_heap.specs.Stations.{Stationed, asked, is_mutator, replied}
 use Rattle.lxr_shared_heap.proofs.RecallLemmas.{all_come, newest_recalled}
+use Rattle.lxr_shared_heap.proofs.LivingLemmas.{live_run}
 use Rattle.lxr_shared_heap.proofs.NewestLemmas.{behind_is, newest_told, told_newest}
 
 -- ---- a mutator at rest
@@ -212,6 +215,15 @@ module _ (settings : Settings) (script : Script) (h : List Item) (epoch : Sharin
         silent = shown_none m;
       }
 
+  -- a mutator has its limits, for which it was made
+  pub limits : (number : ℕ) (m : Mutating) → slice_get now.core.actors number ≡ Some (any.Mutator m) → HasLimits settings number m
+  limits number m there =
+      let at = mutator_at now.core.actors number m is.order there in
+      let live = subst (λ (k : Core AnyActor). AreLive (mutators_in k.actors)) (sym after.core) (live_run open_epoch.running.opened.core schedule open_epoch.live) in record {
+        registers = (is.mutators number m at).width ∙ ap (λ (l : Limits). l.registers) open_epoch.before.come.limits;
+        room = (live number m at).0 ∙ ap (λ t. most_operations t + 2) (thread number m at);
+      }
+
 -- what a mutator's pass shows is so in a history, where it is where the events that it has seen have led it from the epoch's opening, and rests
 pub pass_tells : (settings : Settings) (script : Script) (h : List Item) (epoch : Sharing) (open_epoch : HasOpened (run_of settings script) h epoch) (number : ℕ) (p : Passing AnyActor) (m : Mutating)
     → IsAt any_machine epoch.opening p.seen number p.actor → any_machine.rests p.actor ≡ true → p.actor ≡ any.Mutator m
@@ -285,6 +297,18 @@ first_at settings script h number s stage.Lost stands of = absurd of
 
 pub mutators_come_first : MutatorsComeFirst
 mutators_come_first script h heap number s of pass = subst (λ n. (number < n) ↔ (is_mutator s.pass.actor ≡ true)) of.threads (first_at heap.settings script h number s heap.stage of.stands pass)
+
+limits_at : (settings : Settings) (script : Script) (h : List Item) (number : ℕ) (s : Stationed) (m : Mutating) (at : HeapStage) → StandsFor (run_of settings script) h at → IsPassOf at number s → s.pass.actor ≡ any.Mutator m
+    → HasLimits settings number m
+limits_at settings script h number s m (stage.Within live) stands of actor =
+    limits settings script h live.epoch stands s.pass.seen number m
+    (ap (λ (k : Core AnyActor). slice_get k.actors number) (ran_is settings script h live.epoch stands s.pass.seen) ∙ of.pass.at ∙ ap Some actor)
+limits_at settings script h number s m (stage.Between space actors) stands of actor = absurd of
+limits_at settings script h number s m (stage.Ended space actors) stands of actor = absurd of
+limits_at settings script h number s m stage.Lost stands of actor = absurd of
+
+pub mutators_have_limits : MutatorsHaveLimits
+mutators_have_limits script h heap number s m of pass actor = limits_at heap.settings script h number s m heap.stage of.stands pass actor
 
 told_at : (settings : Settings) (script : Script) (h : List Item) (number : ℕ) (s : Stationed) (m : Mutating) (at : HeapStage) (stands : StandsFor (run_of settings script) h at) → IsPassOf at number s
     → s.pass.actor ≡ any.Mutator m → TellsHistory settings script h (told_behind (run_of settings script) h at stands s.pass.seen) number m

@@ -34,6 +34,10 @@ pub record AreGathered (epoch : Housed) (from : ℕ) (handed : List (Option Arri
   pub come_home : HoldComeHome handed from after
   pub wanted : IsPauseWanted (actors_in after)
 
+-- By all passes of the epoch a pause is wanted: by those that were there and all others from this number on, those that are handed in among them.
+abbrev pub IsWantedByAll : Housed → ℕ → List (Option Arrival) → List (Passing AnyActor) → Type 0
+IsWantedByAll epoch from handed before = (after : List (Passing AnyActor)) × AreGathered epoch from handed before after
+
 -- these are all passes of the epoch, in order, and by their actors a pause is wanted
 pub record AreAll (epoch : Housed) (passes : List (Passing AnyActor)) : Type 0 where
   pub each : ArePassesFrom (table_of epoch) 0 passes

@@ -11,6 +11,7 @@ use Rattle.lxr_model.specs.Kinds.{MustCollect}
 use Rattle.lxr_model_laws.specs.ScriptLaws.{GoesOn}
 use Rattle.lxr_invariant.specs.AbstractState.{AbstractState}
 use Rattle.lxr_core_invariant.specs.EpochStates.{Extends}
+use Rattle.lxr_mutator.specs.Dialogues.{most_operations}
 use Rattle.lxr_mutator.specs.Mutating.{Mutating}
 use Rattle.lxr_core.specs.declared.actors.AnyActor.{AnyActor}
 use Rattle.lxr_core.specs.declared.actors.AnyActor.TheVariants as any
@@ -39,7 +40,7 @@ use Rattle.lxr_shared_heap.specs.declared.station.NotOut.{NotOut}
 use Rattle.lxr_shared_heap.specs.declared.station.NotOut.TheVariants as kept
 use Rattle.lxr_shared_heap.specs.declared.station.Arrival.{Arrival}
 use Rattle.lxr_shared_heap.specs.Arriving.{HasComeHome, IsHandedIn, Tells}
-use Rattle.lxr_shared_heap.specs.Gathering.{HaveEndedFrom}
+use Rattle.lxr_shared_heap.specs.Gathering.{HaveEndedFrom, IsWantedByAll}
 use Rattle.lxr_shared_heap.specs.Living.{AreLive}
 use Rattle.lxr_shared_heap.specs.Renewing.{IsRenewalDue, ends_with_renewal}
 use Rattle.lxr_shared_heap.specs.Resting.{GoesOnBehind}
@@ -221,6 +222,16 @@ OpenIsTold = (script : Script) (h : List Item) (heap : Heaped) (number : ℕ) (s
 abbrev pub MutatorsComeFirst : Type 0
 MutatorsComeFirst = (script : Script) (h : List Item) (heap : Heaped) (number : ℕ) (s : Stationed) → IsHeapOf script h heap → IsPassOf heap.stage number s → (number < heap.settings.mutators) ↔ (is_mutator s.pass.actor ≡ true)
 
+-- A mutator may name as many registers as the heap's settings say. It has room for as many operations as one of its number may be ordered, with the reply
+-- of its end and one to spare: so one that has no room was ordered all of these.
+pub record HasLimits (settings : Settings) (number : ℕ) (m : Mutating) : Type 0 where
+  pub registers : m.width ≡ settings.registers
+  pub room : m.replies.room ≡ most_operations (number + 1) + 2
+
+-- so it is of each station's mutator
+abbrev pub MutatorsHaveLimits : Type 0
+MutatorsHaveLimits = (script : Script) (h : List Item) (heap : Heaped) (number : ℕ) (s : Stationed) (m : Mutating) → IsHeapOf script h heap → IsPassOf heap.stage number s → s.pass.actor ≡ any.Mutator m → HasLimits heap.settings number m
+
 -- ---- pauses
 
 -- what each mutator is asked for and has not done
@@ -301,13 +312,18 @@ pub record HasPausedWith (handed : List (Option Arrival)) (script : Script) (h :
   pub begun : (number : ℕ) (s : Stationed) → HasComeHome handed number s → (rest : List Event) × (made.schedule ≡ s.pass.seen ++ rest)
   pub begins : (number : ℕ) (s : Stationed) → Tells handed number s → Extends (length script) before.settings.every (history_behind script h before of s.pass.seen) made.calls
 
--- What has come of the wish for a pause with stations and homecomings that are handed in: the same, but a pass that is away is none of a station's; and where
--- no pause is wanted none of the stations wants one, and not all are handed in with all mutators ended.
+-- by all passes of the epoch that is open, those that are handed in among them, a pause is wanted
+abbrev pub IsWantedIn : Stage → List (Option Arrival) → Type 0
+IsWantedIn (stage.Within live) handed = IsWantedByAll (housed_in live) 0 handed []
+IsWantedIn _ handed = ⊥
+
+-- What has come of the wish for a pause with stations and homecomings that are handed in: the same, but a pass that is away is none of a station's; where
+-- no pause is wanted none of the stations wants one, and not all are handed in with all mutators ended; and where threads have shares a pause is wanted.
 abbrev pub PausesWith : List (Option Arrival) → Paused → Heaped → Heaped → Type 0
 PausesWith handed paused.Made before after = IsWithin before.stage × ((script : Script) (h : List Item) (of : IsHeapOf script h before) → HasPausedWith handed script h before of after)
 PausesWith handed paused.NotWanted before after = Pauses paused.NotWanted before after × ((number : ℕ) (s : Stationed) → IsHandedIn handed number s → ¬ Wants s.pass.actor) × ¬ HaveEndedFrom (actors_of before.settings) 0 handed
 PausesWith handed (paused.Away number) before after = Pauses (paused.Away number) before after × ((s : Stationed) → ¬ IsHandedIn handed number s)
-PausesWith handed paused.Shared before after = Pauses paused.Shared before after
+PausesWith handed paused.Shared before after = Pauses paused.Shared before after × IsWantedIn before.stage handed
 PausesWith handed paused.NotRunning before after = Pauses paused.NotRunning before after
 PausesWith handed paused.Ended before after = Pauses paused.Ended before after
 PausesWith handed paused.Lost before after = Pauses paused.Lost before after

@@ -1,5 +1,6 @@
 -- The settings of a heap: their ranges, and what its rounds go by.
 use Rattle.std.specs.Prelude.{ℕ, ◌/◌, ◌≤◌, true, None}
+use Rattle.lxr_layout.specs.declared.TheConstants.{REGISTERS}
 use Rattle.lxr_layout.specs.declared.limits.Limits.{Limits}
 use Rattle.lxr_model.specs.Belongs.{Script}
 use Rattle.lxr_rounds_history.specs.Left.{plan_limits}
@@ -18,6 +19,7 @@ pub record AreSettings (settings : Settings) : Type 0 where
   pub helpers : IsInRange settings.helpers 8
   pub log : IsInRange settings.log 65536
   pub remember : IsInRange settings.remember 1048576
+  pub registers : (16 ≤ settings.registers) × (settings.registers ≤ REGISTERS)
   pub evacuate : settings.evacuate ≤ settings.blocks / 8
   pub every : IsInRange settings.every 1048576
   pub trace : IsInRange settings.trace 1000000
@@ -30,6 +32,7 @@ plan_in settings = record {
   evacuate = settings.evacuate;
   log = settings.log;
   remember = settings.remember;
+  registers = settings.registers;
   every = settings.every;
   trace = settings.trace;
   within = settings.within;

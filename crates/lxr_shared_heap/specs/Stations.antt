@@ -1,12 +1,14 @@
 -- Stations: passes that are out with threads, and what has come of the operations that they order.
-use Rattle.std.specs.Prelude.{◌≡◌, ◌↔◌, ℕ, zero, suc, ◌<◌, ◌≤◌, ◌⊎◌, Bool, true, false, Option, None, Some, List, [], ◌∷◌, ◌++◌, IsTrue, length, option_map}
+use Rattle.std.specs.Prelude.{◌≡◌, ◌↔◌, ℕ, zero, suc, ◌+◌, ⊤, ◌<◌, ◌≤◌, ◌⊎◌, Bool, true, false, Option, None, Some, List, [], ◌∷◌, ◌++◌, IsTrue, length, option_map}
 use Rattle.atomic_table.specs.Seated.{TableId}
+use Rattle.lxr_layout.specs.declared.TheConstants.{REGISTERS}
 use Rattle.lxr_graph.specs.declared.Op.{Op}
 use Rattle.lxr_graph.specs.declared.Reply.{Reply}
 use Rattle.lxr_actor.specs.declared.Core.{Core}
 use Rattle.lxr_actor.specs.declared.Event.TheVariants.{Order}
 use Rattle.lxr_mutator.specs.Mutating as mutating
-use Rattle.lxr_mutator.specs.Mutators.{MayTakeOrder}
+use Rattle.lxr_mutator.specs.Mutating.{Mutating}
+use Rattle.lxr_mutator.specs.Mutators.{IsOperation, MayTakeOrder}
 use Rattle.lxr_core.specs.declared.actors.AnyActor.{AnyActor}
 use Rattle.lxr_core.specs.declared.actors.AnyActor.TheVariants as any
 use Rattle.lxr_core.specs.Actors.{any_machine}
@@ -113,6 +115,21 @@ abbrev pub TakesUp : AnyActor → Op → Type 0
 TakesUp (any.Mutator m) o = MayTakeOrder m o
 TakesUp a o = ⊥
 
+-- how many registers a mutator may name; a helper has none, and refuses whatever is named, so all that there are
+abbrev pub registers_of : AnyActor → ℕ
+registers_of (any.Mutator m) = m.width
+registers_of a = REGISTERS
+
+-- A mutator has no room for a further operation with its reply, beside that of the thread's end.
+abbrev pub HasNoRoom : Mutating → Type 0
+HasNoRoom m = m.replies.room ≤ length m.operations + 2
+
+-- why an actor that isn't held up and has not ended takes no order of an operation: it is a helper; or one is open, or it may be asked for none such, or
+-- there is no room for it
+abbrev pub Refuses : AnyActor → Op → Type 0
+Refuses (any.Mutator m) o = IsOpen (any.Mutator m) ⊎ ((¬ IsOperation m.width o) ⊎ HasNoRoom m)
+Refuses a o = ⊤
+
 -- what is answered of an actor that takes no order
 abbrev pub IsNoOrder : AnyActor → Answer → Type 0
 IsNoOrder a (answer.Done r) = ⊥
@@ -137,7 +154,7 @@ HasAnswered p o (answer.Done r) q = WasOrdered p o q × (length (replied p.actor
 HasAnswered p o answer.Waits q = WasOrdered p o q × (length (replied p.actor) ≡ length (asked p.actor)) × (asked q.actor ≡ asked p.actor ++ o ∷ []) × (replied q.actor ≡ replied p.actor)
 HasAnswered p o answer.Pause q = (q.actor ≡ p.actor) × (¬ TakesUp p.actor o) × IsHeldUp p.actor
 HasAnswered p o answer.Ended q = (q.actor ≡ p.actor) × (¬ TakesUp p.actor o) × HasEnded p.actor
-HasAnswered p o answer.Refused q = (q.actor ≡ p.actor) × (¬ TakesUp p.actor o) × (¬ IsHeldUp p.actor) × ¬ HasEnded p.actor
+HasAnswered p o answer.Refused q = (q.actor ≡ p.actor) × (¬ TakesUp p.actor o) × (¬ IsHeldUp p.actor) × (¬ HasEnded p.actor) × Refuses p.actor o
 
 -- What has come of going on with what was ordered before: the reply, if one has come. Where an operation is open, a unit was done; else nothing has changed.
 abbrev pub HasGoneOn : Passing AnyActor → Option Reply → Passing AnyActor → Type 0

@@ -7,7 +7,7 @@ ghost use Rattle.lxr_invariant.specs.AbstractState.{AbstractState};
 ghost use Rattle.lxr_one_pause.specs.Telling.{TellsWanted};
 ghost use Rattle.lxr_rounds_history.specs.Left.{last_report};
 ghost use Rattle.lxr_rounds_invariant.specs.LoopInvariant.{HasRunEpoch};
-ghost use Rattle.lxr_shared_heap.specs.Heaps.{ComesToRest, DoneIsTold, HeapsHaveHistories, IsAtRest, IsHeapOf, IsKept, IsOpened, IsPassOf, MutatorsComeFirst, OpenIsTold, Pauses, PausesWith, Resumes, StationsTellHistories, most_asked, most_asked_with, paused_for, space_at};
+ghost use Rattle.lxr_shared_heap.specs.Heaps.{ComesToRest, DoneIsTold, HeapsHaveHistories, IsAtRest, IsHeapOf, IsKept, IsOpened, IsPassOf, MutatorsComeFirst, MutatorsHaveLimits, OpenIsTold, Pauses, PausesWith, Resumes, StationsTellHistories, most_asked, most_asked_with, paused_for, space_at};
 ghost use Rattle.lxr_core.specs.Actors.{mutators_in, script_of};
 ghost use Rattle.lxr_shared_heap.specs.Living.{AreLive};
 ghost use Rattle.lxr_shared_heap.specs.Renewing.{ends_with_renewal};
@@ -199,7 +199,8 @@ impl Heap {
     /// says either.
     ///
     /// `Away` is answered of no pass whose station is handed in, and `NotWanted` not where one of them is of a mutator that is held up or has asked, nor
-    /// where all are handed in and all mutators have ended.
+    /// where all are handed in and all mutators have ended. `Shared` is answered only where by all passes, those of the stations among them, a pause is
+    /// wanted.
     pub fn pause_with(&mut self, mut arrivals: Vec<Option<Arrival>>) -> Paused
         requires { (number : ℕ) (s : Stationed) → Tells arrivals.items number s → IsPassOf self.old.stage number s }
         ensures { PausesWith arrivals.items result self.old self.new }
@@ -390,6 +391,12 @@ pub fn stations_tell_histories()
 /// Mutators have the first numbers.
 pub fn mutators_come_first()
     ensures { MutatorsComeFirst }
+{}
+
+/// The station of a mutator may name as many registers as its heap's settings say, and has room for as many operations as one of its number may be
+/// ordered.
+pub fn mutators_have_limits()
+    ensures { MutatorsHaveLimits }
 {}
 
 /// What a station answers to an operation is so in that history: the operation is its thread's newest call, and the reply is that of the model's step

@@ -1,5 +1,5 @@
 //! An epoch of live mutators, as its owner has it.
-ghost use Rattle.std.specs.Prelude.{◌≡◌, ◌<◌, ◌≤◌, IfErr, IfOk, IfSome, None, Some, length, map, option_map, slice_get, slice_set, vec_len, vec_capacity};
+ghost use Rattle.std.specs.Prelude.{◌≡◌, ◌<◌, ◌≤◌, [], IfErr, IfOk, IfSome, None, Some, length, map, option_map, slice_get, slice_set, vec_len, vec_capacity};
 ghost use Rattle.std.specs.Arc.{arc_value};
 ghost use Rattle.lxr_core_invariant.specs.EpochStates.{Beginning};
 ghost use Rattle.lxr_actor.specs.Run.{AlwaysFits, core_of};
@@ -9,7 +9,7 @@ ghost use Rattle.lxr_core.specs.Collecting.{actor_given_up};
 ghost use Rattle.lxr_core.specs.Opening.{Begins};
 ghost use Rattle.lxr_shared.specs.Ends.{HaveEnds};
 ghost use Rattle.lxr_shared.specs.Sharing.{sharing};
-ghost use Rattle.lxr_shared_heap.specs.Gathering.{AreAll, AreGathered, HaveEndedFrom, HoldGivenUp, IsUnclosed, IsUnwanted, actors_in};
+ghost use Rattle.lxr_shared_heap.specs.Gathering.{AreAll, AreGathered, HaveEndedFrom, HoldGivenUp, IsUnclosed, IsUnwanted, IsWantedByAll, actors_in};
 ghost use Rattle.lxr_shared_heap.specs.Homes.{GoesOnFrom, IsAbsent, IsPassAt};
 ghost use Rattle.lxr_shared_heap.specs.Running.{BeganWith, ClosesEach, ClosesLive, IsRunning};
 ghost use Rattle.lxr_shared_heap.specs.declared.station.Arrival.{Arrival};
@@ -105,6 +105,7 @@ impl Live {
         ensures kept { IfErr result (λ unclosed. unclosed.live ≡ self) }
         ensures why { IfErr result (λ unclosed. IsUnclosed (length self.epoch.opening.actors) 0 arrivals.old unclosed.why) }
         ensures unended { IfErr result (λ unclosed. unclosed.why ≡ NotClosed.NotWanted → ¬ HaveEndedFrom (length self.epoch.opening.actors) 0 arrivals.old) }
+        ensures wanted { IfErr result (λ unclosed. unclosed.why ≡ NotClosed.Shared → IsWantedByAll (housed_in self) 0 arrivals.old []) }
     {
         let Live {
             shared,
@@ -210,6 +211,7 @@ fn gather(
     ensures none { IfErr result (λ kept. (kept.0 ≡ shared) × (passes.new.items ≡ passes.old.items)) }
     ensures why { IfErr result (λ kept. IsUnclosed (length (arc_value shared).opening.actors) number arrivals.old kept.1) }
     ensures unwanted { IfErr result (λ kept. kept.1 ≡ NotClosed.NotWanted → IsUnwanted (length (arc_value shared).opening.actors) number arrivals.old passes.old.items) }
+    ensures wanted { IfErr result (λ kept. kept.1 ≡ NotClosed.Shared → IsWantedByAll (arc_value shared) number arrivals.old passes.old.items) }
     ensures room { vec_capacity passes.new ≡ vec_capacity passes.old }
 {
     if number >= shared.count() {

@@ -19,6 +19,8 @@ pub struct Settings {
     pub log: u32,
     /// The room for remembered fields, in entries: 1 to 1,048,576.
     pub remember: u32,
+    /// How many registers each mutator may name: 16 to 256.
+    pub registers: u16,
     /// How many blocks are chosen for evacuation at most when a trace begins: 0 to an eighth of all. The pause that ends the trace pays for them.
     pub evacuate: u32,
     /// After so many operations since the last pause a mutator does nothing more before the next one: 1 to 1,048,576.
@@ -46,6 +48,9 @@ impl Settings {
         if !is_within(self.remember, 1_048_576) || !is_within(self.every, 1_048_576) {
             return false;
         }
+        if self.registers < 16 || self.registers > 256 {
+            return false;
+        }
         if self.evacuate > self.blocks / 8 {
             return false;
         }
@@ -61,6 +66,7 @@ impl Settings {
             threads: self.mutators,
             log: self.log,
             remember: self.remember,
+            registers: self.registers,
             evacuate: self.evacuate,
         }
     }

@@ -1,12 +1,13 @@
 //! A pass that is out with a thread of the host.
 ghost use Rattle.std.specs.Prelude.{◌≡◌, ◌⊎◌, ℕ, ◌≤◌, ◌↔◌, IfErr, IfOk, IsTrue, List, None, Some, false, length, true};
 ghost use Rattle.std.specs.Arc.{arc_value};
+ghost use Rattle.lxr_layout.specs.declared.TheConstants.{REGISTERS};
 ghost use Rattle.lxr_core.specs.Actors.{any_machine};
 ghost use Rattle.lxr_shared.specs.Ends.{end_of};
 ghost use Rattle.lxr_shared_passes.specs.Passing.{Turned};
 ghost use Rattle.lxr_shared_heap.specs.Heaps.{StaysPassOf};
 ghost use Rattle.lxr_shared_heap.specs.Homes.{IsAbsent};
-ghost use Rattle.lxr_shared_heap.specs.Stations.{Ends, HasAnswered, HasGoneOn, HasNoMore, HasTurned, Helps, IsNoOrder, IsNotOut, IsOpen, IsSameStation, IsStationOf, found_work, is_mutator, newest_of, replied};
+ghost use Rattle.lxr_shared_heap.specs.Stations.{Ends, HasAnswered, HasGoneOn, HasNoMore, HasTurned, Helps, IsNoOrder, IsNotOut, IsOpen, IsSameStation, IsStationOf, found_work, is_mutator, newest_of, registers_of, replied};
 ghost use Rattle.lxr_shared_heap.specs.Wanting.{HasEnded, IsHeldUp};
 
 use crate::homes::{Absence, Homecoming};
@@ -17,6 +18,7 @@ use lxr_actor::Actor;
 use lxr_core::AnyActor;
 use lxr_decrement::DecEnd;
 use lxr_graph::{Op, Reply};
+use lxr_layout::REGISTERS;
 use lxr_shared::{Pass, Turn};
 use lxr_trace::TraceEnd;
 use std::alloc::Global;
@@ -154,6 +156,21 @@ impl Station {
         ensures { result ≡ is_mutator self.now.pass.actor }
     {
         self.actor().mutator().is_some()
+    }
+
+    /// How many registers its mutator may name. A helper has none, and refuses each operation: of its station all 256 are told.
+    #[inline(always)]
+    pub fn registers(&self) -> u16
+        ensures count { result ≡ registers_of self.now.pass.actor }
+        ensures few { result ≤ REGISTERS }
+    {
+        match self.actor().mutator() {
+            Some(mutator) => {
+                mutator.operation();
+                mutator.width()
+            }
+            None => REGISTERS as u16,
+        }
     }
 
     /// Whether an operation that was ordered has no reply yet.

@@ -1,11 +1,12 @@
 -- A watch that keeps copies of what it sees, in room that it has from the start.
 use Rattle.std.specs.Prelude.{◌≡◌, ℕ, ◌-◌, ◌*◌, ◌≤◌, Bool, IsTrue, Option, Some, None, List, [], ◌∷◌, ◌++◌, length, if◌then◌else◌}
-use Rattle.lxr_layout.specs.declared.TheConstants.{GRANULES_IN_BLOCK}
+use Rattle.lxr_layout.specs.declared.TheConstants.{GRANULES_IN_BLOCK, REGISTERS}
 use Rattle.lxr_layout.specs.declared.limits.Limits.{Limits}
 use Rattle.lxr_layout.specs.Spaces.{all_regions, region_begin}
 use Rattle.lxr_graph.specs.declared.report.Report.{Report}
 use Rattle.lxr_image.specs.declared.space.Space.{Space}
 use Rattle.lxr_image.specs.Opened.{HasRoom}
+use Rattle.lxr_image.specs.Registers.{Registers}
 use Rattle.lxr_image.specs.Spaces.{IsSpace}
 use Rattle.lxr_sights.specs.Sights.{Sight}
 
@@ -17,12 +18,17 @@ pub record FitsReportRoom (r : Report) (granules : ℕ) : Type 0 where
   pub swept : length r.swept.items ≤ granules
   pub told : length r.told.items ≤ granules
 
--- a space fits the room of one that is opened with these limits: it has as many words, and no list has more items
+-- the registers of all threads of these limits, of which each thread may name as many as they say
+pub record AreRegistersFor (r : Registers) (l : Limits) : Type 0 where
+  pub as_many : length r.items ≡ REGISTERS * l.threads
+  pub width : r.width ≡ l.registers
+
+-- a space fits the room of one that is opened with these limits: it has as many words and the same registers, and no list has more items
 -- than that one has room for
 pub record FitsRoom (s : Space) (l : Limits) : Type 0 where
   pub words : length s.words ≡ region_begin l all_regions
-  pub registers : length s.registers.items ≤ 16 * l.threads
-  pub deferred : length s.deferred.items ≤ 16 * l.threads
+  pub registers : AreRegistersFor s.registers l
+  pub deferred : AreRegistersFor s.deferred l
   pub logged : length s.logged.items ≤ l.threads * l.log
   pub work : length s.work.items ≤ GRANULES_IN_BLOCK * l.blocks
   pub report : FitsReportRoom s.report (GRANULES_IN_BLOCK * l.blocks)
@@ -35,17 +41,18 @@ pub record HasReportRoomFor (to from : Report) : Type 0 where
   pub swept : length from.swept.items ≤ to.swept.room
   pub told : length from.told.items ≤ to.told.room
 
--- a space's lists have room for the items of another's
+-- registers of as many threads, of which each may name as many
+pub record AreAlike (r q : Registers) : Type 0 where
+  pub as_many : length r.items ≡ length q.items
+  pub width : r.width ≡ q.width
+
+-- a space has the registers of another, and its lists have room for the items of that one's
 pub record HasRoomFor (to from : Space) : Type 0 where
-  pub registers : length from.registers.items ≤ to.registers.room
-  pub deferred : length from.deferred.items ≤ to.deferred.room
+  pub registers : AreAlike to.registers from.registers
+  pub deferred : AreAlike to.deferred from.deferred
   pub logged : length from.logged.items ≤ to.logged.room
   pub work : length from.work.items ≤ to.work.room
   pub report : HasReportRoomFor to.report from.report
-
--- a space whose lists are no longer than the room that an opened space of its limits has fits
-abbrev pub RoomySpacesFit : Type 0
-RoomySpacesFit = (s opened : Space) → IsSpace s → HasRoom opened → opened.limits ≡ s.limits → HasRoomFor opened s → FitsRoom s s.limits
 
 -- what contracts see of a watch that keeps copies
 pub record Copies : Type 0 where
@@ -76,8 +83,14 @@ abbrev pub Every : {T : Type 0} → (T → Type 0) → List T → Type 0
 Every P [] = Unit {0}
 Every P (x ∷ xs) = P x × Every P xs
 
--- a space that has the room of one opened with these limits
+-- a space that has the registers and the room of one opened with these limits
 pub record IsSpare (l : Limits) (s : Space) : Type 0 where
   pub limits : s.limits ≡ l
   pub space : IsSpace s
+  pub registers : AreRegistersFor s.registers l
+  pub deferred : AreRegistersFor s.deferred l
   pub room : HasRoom s
+
+-- a space that has the registers of such a one, and whose lists are no longer than the room of that one, fits
+abbrev pub RoomySpacesFit : Type 0
+RoomySpacesFit = (s spare : Space) → IsSpace s → IsSpare s.limits spare → HasRoomFor spare s → FitsRoom s s.limits

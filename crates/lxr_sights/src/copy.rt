@@ -3,13 +3,13 @@ ghost use Rattle.std.specs.Prelude.{◌≡◌, ◌*◌, ◌^◌, ◌≤◌, ◌�
 ghost use Rattle.lxr_layout.specs.declared.TheConstants.{MOST_GRANULES};
 ghost use Rattle.lxr_graph.specs.History.{report_of};
 ghost use Rattle.lxr_layout.specs.Spaces.{AreLimits};
-ghost use Rattle.lxr_sights.specs.Copies.{FitsReportRoom, FitsRoom, HasReportRoomFor, HasRoomFor};
+ghost use Rattle.lxr_sights.specs.Copies.{AreRegistersFor, FitsReportRoom, FitsRoom, HasReportRoomFor, HasRoomFor};
 ghost use Rattle.lxr_sights.specs.Sights.{sight_of};
 
 use lxr_base::Listed;
 use lxr_graph::Report;
-use lxr_image::Space;
-use lxr_layout::{GRANULES_IN_BLOCK, Limits, regions};
+use lxr_image::{RegisterFile, Space};
+use lxr_layout::{GRANULES_IN_BLOCK, Limits, REGISTERS, regions};
 use lxr_tables::{PlainWords, Words};
 
 /// Whether a report fits the room of that of an opened space of so many granules.
@@ -24,6 +24,14 @@ fn report_fits(report: &Report, granules: usize) -> bool
         && report.told.len() <= granules
 }
 
+/// Whether registers are those of all threads of these limits, of which each thread may name as many as they say.
+fn are_registers_for(registers: &RegisterFile, limits: Limits) -> bool
+    ensures { IsTrue result ↔ AreRegistersFor registers.now limits }
+{
+    registers.len() == REGISTERS * usize::from(limits.threads)
+        && registers.width() == limits.registers
+}
+
 /// Whether a space fits the room of one that is opened with these limits.
 pub(crate) fn fits(space: &Space, limits: Limits) -> bool
     requires { AreLimits limits }
@@ -32,8 +40,8 @@ pub(crate) fn fits(space: &Space, limits: Limits) -> bool
     let granules = (GRANULES_IN_BLOCK * limits.blocks) as usize;
     let threads = usize::from(limits.threads);
     space.words.count() == regions(limits).total as usize
-        && space.registers.len() <= 16 * threads
-        && space.deferred.len() <= 16 * threads
+        && are_registers_for(&space.registers, limits)
+        && are_registers_for(&space.deferred, limits)
         && space.logged.len() <= threads * limits.log as usize
         && space.work.len() <= granules
         && report_fits(&space.report, granules)
@@ -83,8 +91,8 @@ pub(crate) fn copy_space(to: &mut Space, from: &Space)
     ensures { sight_of to.new ≡ sight_of from.now }
 {
     copy_words(&mut to.words, &from.words);
-    copy_list(&mut to.registers, &from.registers);
-    copy_list(&mut to.deferred, &from.deferred);
+    to.registers.copy_from(&from.registers);
+    to.deferred.copy_from(&from.deferred);
     copy_list(&mut to.logged, &from.logged);
     copy_list(&mut to.work, &from.work);
     copy_report(&mut to.report, &from.report);

@@ -11,18 +11,18 @@ use Rattle.std.proofs.lemmas.List.Elements.{All-from_recursion}
 use Rattle.lxr_graph.specs.declared.Op.{Op}
 use Rattle.lxr_graph.specs.declared.Op.TheVariants as op
 use Rattle.lxr_text_script.specs.declared.Script.{Script}
+use Rattle.lxr_text_script.specs.declared.TheConstants.{MOST_BYTES, SCRIPT_REGISTERS}
 use Rattle.lxr_text_script.specs.declared.Version.{Version}
 use Rattle.lxr_text_script.specs.declared.Version.TheVariants.{One, Two}
 use Rattle.lxr_text_script.specs.declared.fault.ScriptError.{ScriptError}
 use Rattle.lxr_text_script.specs.declared.fault.ScriptFault.{ScriptFault}
 use Rattle.lxr_text_script.specs.declared.fault.ScriptFault.TheVariants as fault
 use Rattle.lxr_text_script.specs.Lines.{Text, Line, end_from, items_from, texts}
-use Rattle.lxr_text_script.specs.Numbers.{at_most_15, number_of, register_of}
+use Rattle.lxr_text_script.specs.Numbers.{number_of, register_numbered, register_of}
 use Rattle.lxr_text_script.specs.Operations.{Read, ◌>>=◌, or_fault, number_at, register_at, size_at, index_at, new_of, load_of, store_of, put_of, get_of, swap_of, add_of, move_of, nil_of, same_of, alone, first_of, second_of, operation_of}
 use Rattle.lxr_text_script.specs.Reading.{Gives, are, bodies_of, header_of, is_opening, next_operation, nothing_after, number_after, opening_of, operations_of, reading_of, script_of, thread_count, threads_in, threads_of, version_of, header_version}
 use Rattle.lxr_text_script.specs.Grammar.{IsNumber, IsRegister, IsSize, SpellsOperation, new, load, store, put, get, swap, add, move, nil, same, pause, collect, SpellsOperations, ended, operation, SpellsThreads, over, thread, Spells, script, version_word}
 use Rattle.lxr_text_script.specs.Limits.{IsOperation, IsThread, IsScript}
-use Rattle.lxr_text_script.specs.declared.TheConstants.{MOST_BYTES}
 
 -- what holds of each value that a part gives, and from there of what is read after it, holds of the whole
 pub then_fits : {A B : Type 0} (Q : A → Type 0) (P : B → Type 0) (r : Read A) (next : A → Read B) → IfOk r Q → ((x : A) → Q x → IfOk (next x) P) → IfOk (r >>= next) P
@@ -53,15 +53,15 @@ number_spelled word = guarded (IsNumber word) ((ltb 0 (length word) && all_ascii
     let front = and_parts (ltb 0 (length word)) (all_ascii_digits word) parts.0 in
     record { some = ltb-true _ _ front.0; digits = front.1; value = refl; small = ltb-true _ _ parts.1 })
 
-at_most : (digits : Text) (o : Option ℕ) → MatchOption o ⊤ (IsNumber digits) → MatchOption (option_and_then at_most_15 o) ⊤ (IsRegister (114 ∷ digits))
-at_most digits None is = tt
-at_most digits (Some n) is = guarded (IsRegister (114 ∷ digits)) (leb n 15) n (λ e. record { digits = digits; is = refl; number = is; small = leb-true n 15 e })
+numbered : (digits : Text) (o : Option ℕ) → MatchOption o ⊤ (IsNumber digits) → MatchOption (option_and_then register_numbered o) ⊤ (IsRegister (114 ∷ digits))
+numbered digits None is = tt
+numbered digits (Some n) is = guarded (IsRegister (114 ∷ digits)) (ltb n SCRIPT_REGISTERS) n (λ e. record { digits = digits; is = refl; number = is; small = ltb-true n SCRIPT_REGISTERS e })
 
 register_spelled : (word : Text) → MatchOption (register_of word) ⊤ (IsRegister word)
 unfolding register_of
 register_spelled [] = tt
-register_spelled (b ∷ digits) = elim (eqb b 114) as (λ v. eqb b 114 ≡ v → MatchOption (cond v (option_and_then at_most_15 (number_of digits)) None) ⊤ (IsRegister (b ∷ digits))) [
-  | true ↦ λ e. rw (eqb-true b 114 e) (at_most digits (number_of digits) (number_spelled digits))
+register_spelled (b ∷ digits) = elim (eqb b 114) as (λ v. eqb b 114 ≡ v → MatchOption (cond v (option_and_then register_numbered (number_of digits)) None) ⊤ (IsRegister (b ∷ digits))) [
+  | true ↦ λ e. rw (eqb-true b 114 e) (numbered digits (number_of digits) (number_spelled digits))
   | false ↦ λ e. tt
 ] refl
 
@@ -229,21 +229,18 @@ next_read version before line = then_fits (SpellsOperation version line.words) _
 these_very : (line words : List Text) → are line words ≡ true → line ≡ words
 these_very line words e = (slice_eq-Decides bytes_eq-Decides line words (are line words) refl).0 e
 
-pub below : {word : Text} {r : ℕ} → IsRegister word r → r < 16
-below is = let le = is.small in omega arith
-
 -- what is spelled is within the limits
 pub operation_fits : {version : Version} {words : List Text} {o : Op} → SpellsOperation version words o → IsOperation o
-operation_fits (new d r v) = record { well_formed = (below d, (r.small, v.small)); written = tt }
-operation_fits (load d b i) = record { well_formed = (below d, below b); written = i.small }
-operation_fits (store b i s) = record { well_formed = (below b, below s); written = i.small }
-operation_fits (put b i v) = record { well_formed = below b; written = (i.small, v.small) }
-operation_fits (get b i) = record { well_formed = below b; written = i.small }
-operation_fits (swap d b i s) = record { well_formed = (below d, below b, below s); written = i.small }
-operation_fits (add b i v) = record { well_formed = below b; written = (i.small, v.small) }
-operation_fits (move d s) = record { well_formed = (below d, below s); written = tt }
-operation_fits (nil d) = record { well_formed = below d; written = tt }
-operation_fits (same l r) = record { well_formed = (below l, below r); written = tt }
+operation_fits (new d r v) = record { well_formed = (d.small, (r.small, v.small)); written = tt }
+operation_fits (load d b i) = record { well_formed = (d.small, b.small); written = i.small }
+operation_fits (store b i s) = record { well_formed = (b.small, s.small); written = i.small }
+operation_fits (put b i v) = record { well_formed = b.small; written = (i.small, v.small) }
+operation_fits (get b i) = record { well_formed = b.small; written = i.small }
+operation_fits (swap d b i s) = record { well_formed = (d.small, b.small, s.small); written = i.small }
+operation_fits (add b i v) = record { well_formed = b.small; written = (i.small, v.small) }
+operation_fits (move d s) = record { well_formed = (d.small, s.small); written = tt }
+operation_fits (nil d) = record { well_formed = d.small; written = tt }
+operation_fits (same l r) = record { well_formed = (l.small, r.small); written = tt }
 operation_fits pause = record { well_formed = tt; written = tt }
 operation_fits collect = record { well_formed = tt; written = tt }
 

@@ -10,7 +10,7 @@ use Rattle.std.proofs.lemmas.Str.Parse.{IsNumeralModel, numerals_by_value, tells
 use Rattle.std.proofs.lemmas.List.Elements.{recursion_from_All}
 use Rattle.lxr_graph.specs.declared.Op.{Op}
 use Rattle.lxr_graph.specs.declared.Op.TheVariants as op
-use Rattle.lxr_text_script.specs.declared.TheConstants.{MOST_BYTES}
+use Rattle.lxr_text_script.specs.declared.TheConstants.{MOST_BYTES, SCRIPT_REGISTERS}
 use Rattle.lxr_text_script.specs.declared.Version.{Version}
 use Rattle.lxr_text_script.specs.declared.Version.TheVariants.{One, Two}
 use Rattle.lxr_text_script.specs.Lines.{Text}
@@ -32,8 +32,8 @@ number_written n small = record {
   small = small;
 }
 
-register_written : (r : ℕ) → r < 16 → IsRegister (register r) r
-register_written r small = record { digits = decimal r; is = refl; number = number_written r (omega arith); small = omega arith }
+register_written : (r : ℕ) → r < SCRIPT_REGISTERS → IsRegister (register r) r
+register_written r small = record { digits = decimal r; is = refl; number = number_written r (omega arith); small = small }
 
 size_written : (n : ℕ) → n ≤ 1023 → IsSize (decimal n) n
 size_written n small = record { number = number_written n (omega arith); small = small }
@@ -51,7 +51,7 @@ plain_number n small = some_plain (decimal n) (decimal_is_IsNumeral n small).0.0
 plain_size : (n : ℕ) → n ≤ 1023 → is_plain (decimal n) ≡ true
 plain_size n small = plain_number n (omega arith)
 
-high_register : (r : ℕ) → r < 16 → are_high (decimal r) ≡ true
+high_register : (r : ℕ) → r < SCRIPT_REGISTERS → are_high (decimal r) ≡ true
 high_register r small = high_number r (omega arith)
 
 -- a version that is at least the later of two is at least each of them

@@ -7,7 +7,7 @@ use Rattle.std.specs.Option.{option_and_then}
 use Rattle.std.proofs.lemmas.Bool.{and_parts, cases_lt, lt-ltb, le-ltb, leb-true, ltb-false, ltb-true, eq-eqb, ne_eqb}
 use Rattle.std.proofs.lemmas.List.{take_all, drop_all}
 use Rattle.lxr_text_script.specs.Lines.{Text}
-use Rattle.lxr_text_script.specs.Numbers.{at_most_15, number_of, register_of}
+use Rattle.lxr_text_script.specs.Numbers.{number_of, register_numbered, register_of}
 
 -- the value with one more digit
 abbrev pub one_more : ℕ → ℕ → Option ℕ
@@ -83,7 +83,7 @@ ends n i word long le so_far =
     let here : read_on n (drop i word) ≡ Some n = rw none refl in
     sym here ∙ so_far ∙ sym (number_is word long)
 
-pub is_register : (word : Text) → 0 < length word → get_or word 0 0 ≡ 114 → register_of word ≡ option_and_then at_most_15 (number_of (take (length word - 1) (drop 1 word)))
+pub is_register : (word : Text) → 0 < length word → get_or word 0 0 ≡ 114 → register_of word ≡ option_and_then register_numbered (number_of (take (length word - 1) (drop 1 word)))
 unfolding register_of
 is_register [] long first = absurd (omega arith)
 is_register (b ∷ digits) long first =

@@ -1,6 +1,6 @@
 -- Rounds one after the other, as a loop makes them, and what is made stays within the limits of a script.
 use Rattle.std.proofs.Common.{◌≡◌, ℕ, zero, suc, ◌+◌, ◌-◌, ◌*◌, ◌%◌, ◌^◌, ◌<◌, ◌≤◌, List, [], ◌∷◌, ◌++◌, length, length-append, refl, sym, ap, ◌∙◌, arith, append_assoc, lit<, lit≤}
-use Rattle.std.proofs.Math.Nat.{add-mod, mod-eq_of_lt, mod-lt, div-le_self}
+use Rattle.std.proofs.Math.Nat.{mod-lt, div-le_self}
 use Rattle.std.proofs.lemmas.List.{append-nil}
 use Rattle.std.proofs.lemmas.List.Elements.{All-from_recursion}
 use Rattle.std.specs.List.{AllByRecursion}

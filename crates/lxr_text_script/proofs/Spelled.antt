@@ -10,7 +10,7 @@ use Rattle.lxr_text_script.specs.declared.Version.TheVariants.{One, Two}
 use Rattle.lxr_text_script.specs.Lines.{Text, Line, end_from, items_from, texts}
 use Rattle.lxr_text_script.specs.Numbers.{number_of, register_of}
 use Rattle.lxr_text_script.specs.Operations.{◌>>=◌, number_at, register_at, size_at, index_at, new_of, load_of, store_of, put_of, get_of, swap_of, add_of, move_of, nil_of, same_of, alone, first_of, second_of, operation_of}
-use Rattle.lxr_text_script.specs.Reading.{are, bodies_of, header_of, next_operation, nothing_after, number_after, opening_of, operations_of, reading_of, script_of, threads_of, header_version, version_of}
+use Rattle.lxr_text_script.specs.Reading.{are, bodies_of, header_of, next_operation, nothing_after, number_after, opening_of, operations_of, reading_of, script_of, threads_of, header_version}
 use Rattle.lxr_text_script.specs.Grammar.{IsNumber, IsRegister, IsSize, SpellsOperation, new, load, store, put, get, swap, add, move, nil, same, pause, collect, SpellsOperations, ended, operation, SpellsThreads, over, thread, Spells, script, version_word}
 use Rattle.lxr_text_script.specs.Limits.{IsThread, IsScript}
 use Rattle.lxr_text_script.proofs.Accepted.{within}
@@ -25,7 +25,7 @@ number_is is =
 register_is : {word : Text} {r : ℕ} → IsRegister word r → register_of word ≡ Some r
 unfolding register_of
 register_is is =
-    let small = le-leb _ _ is.small in
+    let small = lt-ltb _ _ is.small in
     rw (is.is, number_is is.number, small) refl
 
 module _ (n : ℕ) where

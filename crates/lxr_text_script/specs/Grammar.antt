@@ -7,6 +7,7 @@ use Rattle.std.specs.Str.{all_ascii_digits}
 use Rattle.std.specs.Str.Parse.{digits_value}
 use Rattle.lxr_graph.specs.declared.Op.{Op}
 use Rattle.lxr_graph.specs.declared.Op.TheVariants as op
+use Rattle.lxr_text_script.specs.declared.TheConstants.{SCRIPT_REGISTERS}
 use Rattle.lxr_text_script.specs.declared.Version.{Version}
 use Rattle.lxr_text_script.specs.declared.Version.TheVariants.{One, Two}
 use Rattle.lxr_text_script.specs.Lines.{Text}
@@ -23,12 +24,12 @@ pub record IsSize (word : Text) (n : ℕ) : Type 0 where
   pub number : IsNumber word n
   pub small : n ≤ 1023
 
--- `r` followed by a number of at most 15
+-- `r` followed by the number of a register that scripts have
 pub record IsRegister (word : Text) (r : ℕ) : Type 0 where
   pub digits : Text
   pub is : word ≡ 114 ∷ digits
   pub number : IsNumber digits r
-  pub small : r ≤ 15
+  pub small : r < SCRIPT_REGISTERS
 
 -- the word of a version
 abbrev pub version_word : Version → Text

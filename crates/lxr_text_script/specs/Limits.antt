@@ -2,7 +2,8 @@
 use Rattle.std.specs.Prelude.{ℕ, ◌^◌, ◌<◌, ◌≤◌, List, length, All}
 use Rattle.lxr_graph.specs.declared.Op.{Op}
 use Rattle.lxr_graph.specs.declared.Op.TheVariants as op
-use Rattle.lxr_graph.specs.Step.{IsWellFormed}
+use Rattle.lxr_graph.specs.Step.{IsFormedFor}
+use Rattle.lxr_text_script.specs.declared.TheConstants.{SCRIPT_REGISTERS}
 
 -- a script has at most so many bytes
 abbrev pub most_bytes : ℕ
@@ -28,9 +29,9 @@ IsWritten op.Pause = Unit {0}
 IsWritten op.Collect = Unit {0}
 IsWritten op.End = ⊥
 
--- an operation of a script: its registers are below 16, its shape fits, and its numbers are in range
+-- an operation of a script: its registers are those of scripts, its shape fits, and its numbers are in range
 pub record IsOperation (o : Op) : Type 0 where
-  pub well_formed : IsWellFormed o
+  pub well_formed : IsFormedFor SCRIPT_REGISTERS o
   pub written : IsWritten o
 
 -- what a thread does

@@ -27,6 +27,9 @@ pub use reading::{MOST_OPERATIONS, is_end, read_script};
 /// A script has at most so many bytes.
 pub const MOST_BYTES: usize = 67_108_864;
 
+/// How many registers an operation of a script may name: r0 to r15.
+pub const SCRIPT_REGISTERS: u16 = 16;
+
 /// The version of a script, which its first line names.
 #[derive(Clone, Copy, Debug, PartialEq, Eq)]
 pub enum Version {

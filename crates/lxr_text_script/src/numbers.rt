@@ -4,6 +4,8 @@ ghost use Rattle.std.specs.Char.{is_ascii_digit};
 ghost use Rattle.std.specs.Option.{SomeIff};
 ghost use Rattle.lxr_text_script.specs.Numbers as value;
 
+use crate::SCRIPT_REGISTERS;
+
 /// A value with one more digit, if the byte is one and the new value is below 2^64.
 fn with_digit(value: u64, byte: u8) -> Option<u64>
     ensures { SomeIff result (IsTrue (is_ascii_digit byte) × (value * 10 + (byte - 48) < 2 ^ 64)) (value * 10 + (byte - 48)) }
@@ -28,18 +30,18 @@ pub fn number_of(word: &[u8]) -> Option<u64>
     Some(value)
 }
 
-/// A number of at most 15.
-fn at_most_15(number: u64) -> Option<u8>
-    ensures { result ≡ value.at_most_15 number }
+/// The register of scripts that has this number.
+fn register_numbered(number: u64) -> Option<u8>
+    ensures { result ≡ value.register_numbered number }
 {
-    if number <= 15 {
+    if number < u64::from(SCRIPT_REGISTERS) {
         Some(number as u8)
     } else {
         None
     }
 }
 
-/// The number of a register: `r` followed by a number of at most 15.
+/// The number of a register: `r` followed by the number of one that scripts have.
 pub(crate) fn register_of(word: &[u8]) -> Option<u8>
     ensures { result ≡ value.register_of word.now }
 {
@@ -49,5 +51,5 @@ pub(crate) fn register_of(word: &[u8]) -> Option<u8>
     if word[0] != b'r' {
         return None;
     }
-    at_most_15(number_of(&word[1..])?)
+    register_numbered(number_of(&word[1..])?)
 }

@@ -7,25 +7,32 @@ use std::rt::HostRuntime;
 
 /// A heap of two blocks, without a pace.
 const SETTINGS: Settings = Settings {
-    size: 24,
+    size: 32,
     blocks: 2,
     body_blocks: 1,
     pace: 0,
+    registers: 16,
+    unused: 0,
 };
 
 /// A new object with this word stands behind reference 0 of the world, and no register holds it.
 fn keep(heap: &mut Handle, value: u64) -> Result<(), Code> {
-    heap.make(requests::new(1, 1, 1))?;
-    heap.reply(requests::put(1, 0, value))?;
-    heap.store(requests::set_reference(0, 0, 1))?;
-    heap.reply(requests::nil(1))?;
+    let new = requests::new(heap.registers(), 1, 1, 1);
+    heap.make(new)?;
+    let put = requests::put(heap.registers(), 1, 0, value);
+    heap.reply(put)?;
+    let stored = requests::set_reference(heap.registers(), 0, 0, 1);
+    heap.store(stored)?;
+    let nil = requests::nil(heap.registers(), 1);
+    heap.reply(nil)?;
     Ok(())
 }
 
 /// The word of what stands behind reference 0 of the world.
 fn kept(heap: &mut Handle) -> Option<u64> {
-    heap.reply(requests::load(2, 0, 0)).ok()?;
-    match heap.see(requests::get(2, 0)) {
+    let loaded = requests::load(heap.registers(), 2, 0, 0);
+    heap.reply(loaded).ok()?;
+    match heap.see(requests::get(heap.registers(), 2, 0)) {
         Ok(LargeReply::Small(Reply::Got(word))) => Some(word),
         _ => None,
     }

@@ -17,6 +17,7 @@ const SETTINGS: Settings = Settings {
     helpers: 1,
     log: 64,
     remember: 64,
+    registers: 16,
     evacuate: 8,
     every: 100,
     trace: 2,

@@ -26,6 +26,7 @@ fn handed_out(rt: &impl Abort, alloc: Global) -> Space
         threads: 1,
         log: 1,
         remember: 1,
+        registers: 16,
         evacuate: 0,
     };
     space.open(alloc, limits).expect(rt, "memory");

@@ -13,6 +13,7 @@ pub const LIMITS: Limits = Limits {
     threads: 1,
     log: 1,
     remember: 1,
+    registers: 16,
     evacuate: 0,
 };
 

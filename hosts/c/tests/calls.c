@@ -19,6 +19,7 @@ const struct calls calls_lxr = {
     .move = lxr_move,
     .nil = lxr_nil,
     .is_nil = lxr_is_nil,
+    .registers_in_use = lxr_registers_in_use,
     .shape = lxr_shape,
     .new_with = lxr_new_with,
     .get_many = lxr_get_many,

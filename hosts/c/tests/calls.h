@@ -22,6 +22,7 @@ struct calls {
     lxr_code (*move)(lxr_heap *, uint32_t, uint32_t);
     lxr_code (*nil)(lxr_heap *, uint32_t);
     lxr_code (*is_nil)(const lxr_heap *, uint32_t, uint32_t *);
+    lxr_code (*registers_in_use)(lxr_heap *, uint32_t);
     lxr_code (*shape)(const lxr_heap *, uint32_t, uint32_t *, uint32_t *, uint32_t *);
     lxr_code (*new_with)(lxr_heap *, uint32_t, const uint32_t *, size_t, const uint64_t *, size_t);
     lxr_code (*get_many)(const lxr_heap *, uint32_t, uint32_t, uint64_t *, size_t);

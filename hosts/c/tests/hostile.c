@@ -14,6 +14,9 @@
 #define UNTOUCHED 0xA5A5A5A5u
 #define LAST      UINT32_MAX
 
+/* The bytes of settings of version 0.2, which end before the registers. */
+#define FIRST 24
+
 static unsigned long checks;
 
 static void check(uint64_t found, uint64_t wanted, const char *what, int line) {
@@ -58,6 +61,9 @@ static size_t done;
 static uint32_t long_registers[LXR_MOST_REFS + 2];
 static uint64_t long_words[LXR_MOST_WORDS + 2];
 
+/* How many registers heaps are opened with. */
+static uint32_t many_registers = LXR_REGISTERS;
+
 /* ---- Handles ---- */
 
 static void refuses_several(lxr_heap *heap, uint32_t n) {
@@ -89,6 +95,7 @@ static void refuses_all(lxr_heap *heap) {
         REFUSED(lxr_move(heap, n, n), LXR_E_NO_HEAP);
         REFUSED(lxr_nil(heap, n), LXR_E_NO_HEAP);
         REFUSED(lxr_is_nil(heap, n, &narrow), LXR_E_NO_HEAP);
+        REFUSED(lxr_registers_in_use(heap, n), LXR_E_NO_HEAP);
         REFUSED(lxr_shape(heap, n, &refs, &words, &blocks), LXR_E_NO_HEAP);
         REFUSED(lxr_large_new(heap, n, n), LXR_E_NO_HEAP);
         REFUSED(lxr_large_get(heap, n, n, &wide), LXR_E_NO_HEAP);
@@ -107,13 +114,15 @@ static void refuses_all(lxr_heap *heap) {
 static lxr_code open_heap(lxr_heap *heap, uint32_t of_blocks, uint32_t of_bodies) {
     lxr_settings settings = LXR_SETTINGS(of_blocks, of_bodies);
     settings.pace = LXR_PACE_NEVER;
+    settings.registers = many_registers;
     return lxr_open(heap, &settings);
 }
 
 /* Settings of another size than there is are refused, whatever else they have. */
 static void refuses_sizes_of_settings(lxr_heap *heap) {
-    static const uint64_t wrong[] = { 0,        1,         8, sizeof(lxr_settings) - 8, sizeof(lxr_settings) - 1, sizeof(lxr_settings) + 1,
-                                      1u << 31, UINT64_MAX };
+    static const uint64_t wrong[] = {
+        0, 1, 8, FIRST - 8, FIRST - 1, FIRST + 1, sizeof(lxr_settings) - 1, sizeof(lxr_settings) + 1, 1u << 31, UINT64_MAX
+    };
     for (size_t at = 0; at < sizeof wrong / sizeof *wrong; at++) {
         lxr_settings settings = LXR_SETTINGS(1, 1);
         settings.size = wrong[at];
@@ -133,13 +142,58 @@ static void refuses_sizes_of_heaps(lxr_heap *heap) {
     }
 }
 
+/* So is one with a number of registers that there isn't. */
+static void refuses_numbers_of_registers(lxr_heap *heap) {
+    static const uint32_t wrong[] = { 1, 15, 257, 1u << 16, 65536 + 16, 1u << 31, LAST };
+    for (size_t at = 0; at < sizeof wrong / sizeof *wrong; at++) {
+        lxr_settings settings = LXR_SETTINGS(1, 1);
+        settings.registers = wrong[at];
+        REFUSED(lxr_open(heap, &settings), LXR_E_SIZE);
+        REFUSED(lxr_close(heap), LXR_E_NO_HEAP);
+    }
+}
+
+/* A heap of these settings has so many registers: the last one is nil, and there is none behind it. */
+static void opens_with_registers(const lxr_settings *settings, uint32_t wanted) {
+    lxr_heap heap = LXR_HEAP_INIT;
+    IS(lxr_open(&heap, settings), LXR_OK);
+    IS(lxr_is_nil(&heap, wanted - 1, &narrow), LXR_OK);
+    IS(narrow, 1);
+    REFUSED(lxr_is_nil(&heap, wanted, &narrow), LXR_E_REGISTER);
+    IS(lxr_new(&heap, wanted - 1, 1, 1), LXR_OK);
+    REFUSED(lxr_new(&heap, wanted, 1, 1), LXR_E_REGISTER);
+    IS(lxr_collect(&heap), LXR_OK);
+    IS(lxr_is_nil(&heap, wanted - 1, &narrow), LXR_OK);
+    IS(narrow, 0);
+    IS(lxr_close(&heap), LXR_OK);
+}
+
+/* Each number of registers that there is, 16 where 0 is said, and 16 by settings of version 0.2, behind which nothing is read. */
+static void numbers_of_registers(void) {
+    static const uint32_t right[] = { 16, 17, 31, 32, 64, 255, 256 };
+    lxr_settings settings = LXR_SETTINGS(1, 1);
+    opens_with_registers(&settings, LXR_REGISTERS);
+    for (size_t at = 0; at < sizeof right / sizeof *right; at++) {
+        settings.registers = right[at];
+        opens_with_registers(&settings, right[at]);
+    }
+    settings.registers = 0;
+    opens_with_registers(&settings, LXR_REGISTERS);
+    void *first = malloc(FIRST);
+    if (!first) exit(5);
+    settings.size = FIRST;
+    memcpy(first, &settings, FIRST);
+    opens_with_registers(first, LXR_REGISTERS);
+    free(first);
+}
+
 /* Whether a heap is as it is opened. */
 static void is_opened(lxr_heap *heap) {
     IS(lxr_shape(heap, 0, &refs, &words, &blocks), LXR_OK);
     IS(refs, LXR_WORLD_REFS);
     IS(words, 0);
     IS(blocks, 0);
-    for (uint32_t at = 0; at < LXR_REGISTERS; at++) {
+    for (uint32_t at = 0; at < many_registers; at++) {
         IS(lxr_is_nil(heap, at, &narrow), LXR_OK);
         IS(narrow, at != 0);
     }
@@ -163,6 +217,7 @@ static void handles(void) {
     refuses_all(on_heap);
     refuses_sizes_of_settings(&heap);
     refuses_sizes_of_heaps(&heap);
+    refuses_numbers_of_registers(&heap);
     IS(open_heap(&heap, 4, 2), LXR_OK);
     is_opened(&heap);
     REFUSED(open_heap(&heap, 4, 2), LXR_E_IN_USE);
@@ -245,16 +300,16 @@ static void operations_that_are_none(lxr_heap *heap) {
     for (size_t at = 0; at < sizeof wrong / sizeof *wrong; at++) {
         REFUSES(heap, wrong[at], 1, 1, 1, LXR_E_WHAT);
         REFUSES(heap, wrong[at], LAST, LAST, LAST, LXR_E_WHAT);
-        lxr_operation two[2] = { { LXR_OP_NIL, 16, 0, 0, 0 }, { wrong[at], 0, 0, 0, 0 } };
+        lxr_operation two[2] = { { LXR_OP_NIL, many_registers, 0, 0, 0 }, { wrong[at], 0, 0, 0, 0 } };
         APPLIES(heap, two, 2, LXR_E_REGISTER, 0);
-        two[0] = (lxr_operation){ wrong[at], 16, 0, 0, 0 };
+        two[0] = (lxr_operation){ wrong[at], many_registers, 0, 0, 0 };
         two[1] = (lxr_operation){ LXR_OP_NEW, 3, 1024, 0, 0 };
         APPLIES(heap, two, 2, LXR_E_WHAT, 0);
     }
     REFUSES(heap, LXR_OP_NEW, 3, 1024, 0, LXR_E_SIZE);
     REFUSES(heap, LXR_OP_NEW, 3, 0, 1024, LXR_E_SIZE);
     REFUSES(heap, LXR_OP_NEW, 3, LAST, LAST, LXR_E_SIZE);
-    lxr_operation two[2] = { { LXR_OP_NEW, 3, 0, 1024, 0 }, { LXR_OP_NIL, 16, 0, 0, 0 } };
+    lxr_operation two[2] = { { LXR_OP_NEW, 3, 0, 1024, 0 }, { LXR_OP_NIL, many_registers, 0, 0, 0 } };
     APPLIES(heap, two, 2, LXR_E_SIZE, 0);
     APPLIES(heap, two, 0, LXR_OK, 0);
 }
@@ -288,7 +343,7 @@ static void stops(lxr_heap *heap) {
 
 /* ---- Numbers ---- */
 
-/* A register above 15, in each place of several, also where much else is wrong. */
+/* A register that there isn't, in each place of several, also where much else is wrong. */
 static void registers_of_several(lxr_heap *heap, uint32_t n) {
     REFUSED(lxr_new_with(heap, n, long_registers, 2, many, 8), LXR_E_REGISTER);
     REFUSED(lxr_new_with(heap, n, long_registers, 1024, long_words, 1024), LXR_E_REGISTER);
@@ -328,9 +383,9 @@ static void registers_among_others(lxr_heap *heap) {
     }
 }
 
-/* A register above 15, in each place that has one. */
+/* A register that there isn't, in each place that has one. */
 static void registers(lxr_heap *heap) {
-    static const uint32_t wrong[] = { 16, 17, 255, 256, 1u << 31, LAST };
+    const uint32_t wrong[] = { many_registers, many_registers + 1, 256, 257, 65536 + 3, 1u << 31, LAST };
     for (size_t at = 0; at < sizeof wrong / sizeof *wrong; at++) {
         uint32_t n = wrong[at];
         REFUSED(lxr_new(heap, n, 1, 1), LXR_E_REGISTER);
@@ -349,6 +404,7 @@ static void registers(lxr_heap *heap) {
         REFUSED(lxr_move(heap, 0, n), LXR_E_REGISTER);
         REFUSED(lxr_nil(heap, n), LXR_E_REGISTER);
         REFUSED(lxr_is_nil(heap, n, &narrow), LXR_E_REGISTER);
+        if (n != many_registers) REFUSED(lxr_registers_in_use(heap, n), LXR_E_REGISTER);
         REFUSED(lxr_shape(heap, n, &refs, &words, &blocks), LXR_E_REGISTER);
         REFUSED(lxr_large_new(heap, n, 1), LXR_E_REGISTER);
         REFUSED(lxr_large_new(heap, n, 0), LXR_E_REGISTER);
@@ -359,6 +415,7 @@ static void registers(lxr_heap *heap) {
         registers_of_several(heap, n);
         registers_of_operations(heap, n);
     }
+    REFUSED(lxr_registers_in_use(heap, 0), LXR_E_REGISTER);
     registers_among_others(heap);
 }
 
@@ -531,8 +588,10 @@ static void is_as_made(lxr_heap *heap) {
     IS(blocks, 2);
 }
 
-static void numbers(void) {
+/* The same, whatever the number of registers: those that stand behind the first sixteen are nil all along. */
+static void numbers(uint32_t registers_there) {
     lxr_heap heap = LXR_HEAP_INIT;
+    many_registers = registers_there;
     IS(open_heap(&heap, 4, 4), LXR_OK);
     IS(lxr_new(&heap, 1, 2, 3), LXR_OK);
     IS(lxr_large_new(&heap, 2, 2), LXR_OK);
@@ -552,6 +611,80 @@ static void numbers(void) {
         IS(pauses % 2 ? lxr_collect(&heap) : lxr_pause(&heap), LXR_OK);
     }
     IS(lxr_close(&heap), LXR_OK);
+    many_registers = LXR_REGISTERS;
+}
+
+/* ---- Registers in use ---- */
+
+/* Whether each register but that of the world holds an object with its own number, up to `count`, and the others none. */
+static void holds_up_to(lxr_heap *heap, uint32_t count) {
+    for (uint32_t at = 1; at < many_registers; at++) {
+        IS(lxr_is_nil(heap, at, &narrow), LXR_OK);
+        IS(narrow, at >= count);
+        IS(lxr_get(heap, at, 0, &wide), at < count ? LXR_OK : LXR_E_NIL);
+        if (at < count) IS(wide, at);
+    }
+    IS(lxr_shape(heap, 0, &refs, &words, &blocks), LXR_OK);
+    IS(refs, LXR_WORLD_REFS);
+}
+
+static void fill_registers(lxr_heap *heap) {
+    for (uint32_t at = 1; at < many_registers; at++) {
+        IS(lxr_new(heap, at, 0, 1), LXR_OK);
+        IS(lxr_put(heap, at, 0, at), LXR_OK);
+    }
+}
+
+/* What registers behind the first so many held goes, over pauses of each kind, and what the first ones hold stays. */
+static void keeps_in_use(lxr_heap *heap, uint32_t count) {
+    for (int pauses = 0; pauses < 4; pauses++) {
+        fill_registers(heap);
+        if (pauses & 1) IS(lxr_pause(heap), LXR_OK);
+        IS(lxr_registers_in_use(heap, many_registers), LXR_OK);
+        holds_up_to(heap, many_registers);
+        IS(lxr_registers_in_use(heap, count), LXR_OK);
+        holds_up_to(heap, count);
+        if (pauses & 2) IS(lxr_pause(heap), LXR_OK);
+        holds_up_to(heap, count);
+        IS(lxr_collect(heap), LXR_OK);
+        holds_up_to(heap, count);
+        IS(lxr_count(heap, LXR_COUNT_LIVE, &wide), LXR_OK);
+        IS(wide, count - 1);
+    }
+    IS(lxr_registers_in_use(heap, 1), LXR_OK);
+    holds_up_to(heap, 1);
+}
+
+/* A register behind those in use is written to: from then on it is in use too. */
+static void uses_again(lxr_heap *heap) {
+    const uint32_t last = many_registers - 1;
+    IS(lxr_registers_in_use(heap, 1), LXR_OK);
+    IS(lxr_new(heap, 1, 0, 1), LXR_OK);
+    IS(lxr_put(heap, 1, 0, 77), LXR_OK);
+    IS(lxr_move(heap, last, 1), LXR_OK);
+    IS(lxr_nil(heap, 1), LXR_OK);
+    for (int pauses = 0; pauses < 3; pauses++) {
+        IS(pauses ? lxr_pause(heap) : lxr_collect(heap), LXR_OK);
+        IS(lxr_get(heap, last, 0, &wide), LXR_OK);
+        IS(wide, 77);
+    }
+    IS(lxr_registers_in_use(heap, last), LXR_OK);
+    IS(lxr_is_nil(heap, last, &narrow), LXR_OK);
+    IS(narrow, 1);
+    IS(lxr_collect(heap), LXR_OK);
+    IS(lxr_count(heap, LXR_COUNT_LIVE, &wide), LXR_OK);
+    IS(wide, 0);
+}
+
+static void registers_in_use(uint32_t registers_there) {
+    const uint32_t counts[] = { 1, 2, 15, 16, registers_there / 2, registers_there - 1, registers_there };
+    lxr_heap heap = LXR_HEAP_INIT;
+    many_registers = registers_there;
+    IS(open_heap(&heap, 2, 1), LXR_OK);
+    for (size_t at = 0; at < sizeof counts / sizeof *counts; at++) keeps_in_use(&heap, counts[at]);
+    uses_again(&heap);
+    IS(lxr_close(&heap), LXR_OK);
+    many_registers = LXR_REGISTERS;
 }
 
 /* ---- Several at once ---- */
@@ -820,12 +953,17 @@ int main(void) {
     for (size_t at = 0; at < sizeof long_registers / sizeof *long_registers; at++) long_registers[at] = 3;
     IS(lxr_version(), LXR_VERSION);
     handles();
+    numbers_of_registers();
     paces();
     paces_of_several();
     logs();
     pace_of_a_newcomer();
     two_heaps();
-    numbers();
+    static const uint32_t numbers_there[] = { 16, 17, 64, 255, 256 };
+    for (size_t at = 0; at < sizeof numbers_there / sizeof *numbers_there; at++) {
+        numbers(numbers_there[at]);
+        registers_in_use(numbers_there[at]);
+    }
     several();
     full();
     full_of_bodies();

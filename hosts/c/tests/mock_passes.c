@@ -57,7 +57,7 @@ struct pass {
     struct operation operation;
     lxr_code code;
     uint64_t word, dice;
-    struct object *registers[LXR_REGISTERS], *newest;
+    struct object *registers[LXR_MOST_REGISTERS], *newest;
 };
 
 struct heap {
@@ -211,10 +211,15 @@ static lxr_code order(lxr_station *station, const struct operation *asked, uint6
     return code;
 }
 
+/* How many registers an operation may name: those of a mutator whose pass is away, and else all that there are. */
+static uint32_t find_registers(const struct post *post) {
+    return post->pass && !post->pass->helps ? post->heap->settings.registers : LXR_MOST_REGISTERS;
+}
+
 static lxr_code operate(lxr_station *station, struct operation asked, uint64_t *word) {
     if (!station->live) return LXR_E_NO_HEAP;
-    uint32_t least = asked.deed == NEW ? 0 : asked.source;
-    if (asked.dest >= LXR_REGISTERS || asked.base >= LXR_REGISTERS || least >= LXR_REGISTERS) return LXR_E_REGISTER;
+    const uint32_t registers = find_registers(station->block), source = asked.deed == NEW ? 0 : asked.source;
+    if (asked.dest >= registers || asked.base >= registers || source >= registers) return LXR_E_REGISTER;
     if (asked.deed == NEW && (asked.index > LXR_MOST_REFS || asked.source > LXR_MOST_WORDS)) return LXR_E_SIZE;
     return order(station, &asked, word);
 }
@@ -359,16 +364,18 @@ static bool is_within(uint32_t number, uint32_t least, uint32_t most) { return n
 static bool read_settings(lxr_passes_settings *settings, const lxr_passes_settings *from) {
     const size_t first = offsetof(lxr_passes_settings, evacuate);
     if (from->size != sizeof *settings && from->size != first) return false;
+    settings->registers = 0;
     memcpy(settings, from, (size_t)from->size);
     if (from->size == first) settings->evacuate = settings->blocks / 8;
+    if (settings->registers == 0) settings->registers = LXR_REGISTERS;
     return true;
 }
 
 static bool are_settings(const lxr_passes_settings *settings) {
     return is_within(settings->blocks, 1, 65536) && is_within(settings->mutators, 1, MUTATORS) &&
            is_within(settings->helpers, 1, HELPERS) && is_within(settings->log, 1, 65536) && is_within(settings->remember, 1, 1048576) &&
-           is_within(settings->evacuate, 0, settings->blocks / 8) && is_within(settings->every, 1, 1048576) &&
-           is_within(settings->trace, 1, 1000000) && is_within(settings->within, 1, 1000000);
+           is_within(settings->registers, LXR_REGISTERS, LXR_MOST_REGISTERS) && is_within(settings->evacuate, 0, settings->blocks / 8) &&
+           is_within(settings->every, 1, 1048576) && is_within(settings->trace, 1, 1000000) && is_within(settings->within, 1, 1000000);
 }
 
 lxr_code lxr_passes_open(lxr_passes *handle, const lxr_passes_settings *asked) {

@@ -149,6 +149,16 @@ static void try_settings(void) {
     }
 }
 
+/* 16 to 256 registers, or 0 for sixteen. */
+static void try_registers(void) {
+    const uint32_t tried[] = { 0, 1, 15, 16, 17, 255, 256, 257, 65536, 65536 + 16, LAST };
+    for (size_t at = 0; at < sizeof tried / sizeof tried[0]; at++) {
+        lxr_passes_settings settings = good;
+        settings.registers = tried[at];
+        try_open(&settings, tried[at] == 0 || (tried[at] >= 16 && tried[at] <= 256));
+    }
+}
+
 /* Heaps of so many blocks, of which no more than an eighth is evacuated. */
 static void try_blocks(void) {
     const uint32_t tried[] = { 0, 1, 7, 8, 15, 16, 1024, 1025, LARGEST, 65537, 1u << 31, LAST };
@@ -221,20 +231,46 @@ static void try_leaving(lxr_passes *heap) {
     }
 }
 
-/* Registers and sizes are looked at before the station's pass. */
+/* Registers and sizes are looked at before the station's pass: while that is away as many registers as the mutator has, and else all 256. */
 static void try_numbers(lxr_passes *heap) {
     lxr_station station = { 0, 0 };
     IS(lxr_station_leave(heap, 0, &station), LXR_OK);
-    for (uint32_t again = 0; again < 2; again++) {
-        REFUSED(lxr_station_new(&station, 16, 1, 1), LXR_E_REGISTER);
+    for (uint32_t registers = 16; registers <= 256; registers += 240) {
+        REFUSED(lxr_station_new(&station, registers, 1, 1), LXR_E_REGISTER);
+        REFUSED(lxr_station_new(&station, registers, 1024, 1), LXR_E_REGISTER);
         REFUSED(lxr_station_new(&station, 1, 1024, 1), LXR_E_SIZE);
         REFUSED(lxr_station_new(&station, 1, 1, LAST), LXR_E_SIZE);
         REFUSED(lxr_station_swap(&station, 1, 0, 0, LAST), LXR_E_REGISTER);
-        REFUSED(lxr_station_add(&station, 16, 0, 0, &wide), LXR_E_REGISTER);
-        REFUSED(lxr_station_same(&station, 0, 16, &narrow), LXR_E_REGISTER);
-        if (!again) IS(lxr_station_come_home(&station), LXR_OK);
+        REFUSED(lxr_station_add(&station, registers, 0, 0, &wide), LXR_E_REGISTER);
+        REFUSED(lxr_station_same(&station, 0, registers, &narrow), LXR_E_REGISTER);
+        if (registers == 16) IS(lxr_station_come_home(&station), LXR_OK);
     }
+    REFUSED(lxr_station_new(&station, 16, 1024, 1), LXR_E_SIZE);
+    REFUSED(lxr_station_same(&station, 0, 16, &narrow), LXR_E_HOME);
     IS(lxr_station_close(&station), LXR_OK);
+}
+
+/* A mutator has as many registers as its heap's settings say. */
+static void try_all_registers(uint32_t registers) {
+    lxr_passes heap = { 0, 0 };
+    lxr_station station = { 0, 0 };
+    lxr_passes_settings settings = good;
+    settings.registers = registers;
+    settings.every = 1000;
+    IS(lxr_passes_open(&heap, &settings), LXR_OK);
+    IS(lxr_passes_resume(&heap), LXR_OK);
+    IS(lxr_station_leave(&heap, 1, &station), LXR_OK);
+    for (uint32_t at = 0; at < registers; at++) {
+        lxr_code code = lxr_station_same(&station, at, 0, &narrow);
+        IS(code, LXR_OK);
+        IS(narrow, at == 0);
+    }
+    narrow = UNTOUCHED;
+    REFUSED(lxr_station_same(&station, registers, 0, &narrow), LXR_E_REGISTER);
+    REFUSED(lxr_station_move(&station, registers, 0), LXR_E_REGISTER);
+    REFUSED(lxr_station_nil(&station, 256), LXR_E_REGISTER);
+    IS(lxr_station_close(&station), LXR_OK);
+    IS(lxr_passes_close(&heap), LXR_OK);
 }
 
 /* What is read and compared is told once, and again by the answer. */
@@ -309,7 +345,11 @@ int main(void) {
     try_sizes();
     try_first();
     try_settings();
+    try_registers();
     try_blocks();
+    try_all_registers(16);
+    try_all_registers(17);
+    try_all_registers(256);
     IS(lxr_passes_open(&heap, &good), LXR_OK);
     try_between(&heap, 0);
     IS(lxr_passes_resume(&heap), LXR_OK);

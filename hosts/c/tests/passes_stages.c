@@ -146,6 +146,7 @@ static lxr_code wants(struct stage *at) { return lxr_station_wants_pause(&at->st
 static lxr_code help(struct stage *at) { return lxr_station_help(&at->station, 1, &flag); }
 static lxr_code same(struct stage *at) { return lxr_station_same(&at->station, 0, 0, &flag); }
 static lxr_code same_register(struct stage *at) { return lxr_station_same(&at->station, 0, LXR_REGISTERS, &flag); }
+static lxr_code same_beyond(struct stage *at) { return lxr_station_same(&at->station, 0, LXR_MOST_REGISTERS, &flag); }
 static lxr_code new_size(struct stage *at) { return lxr_station_new(&at->station, 1, LXR_MOST_REFS + 1, 0); }
 static lxr_code answer(struct stage *at) { return lxr_station_answer(&at->station, &word); }
 
@@ -175,6 +176,7 @@ static const struct {
     { "help", help, false },
     { "same", same, false },
     { "same_register", same_register, false },
+    { "same_beyond", same_beyond, false },
     { "new_size", new_size, false },
     { "answer", answer, false },
 };

@@ -3,9 +3,9 @@
  *
  * usage: random SECONDS [SEED]     rounds for so long, each from a number of its own on; with 0 seconds one round, from SEED
  *
- * A round opens both heaps and makes some ten thousand calls on both; most are sensible, some are wild. Each code and each word that is
- * answered has to be the same. Where the archive says that it is full, the other heap isn't called, and what it can reach has to be enough
- * to leave no room. After a collecting pause both have as many objects.
+ * A round opens both heaps with 16, 64 or 256 registers, and makes some ten thousand calls on both; most are sensible, some are wild. Each
+ * code and each word that is answered has to be the same. Where the archive says that it is full, the other heap isn't called, and what it
+ * can reach has to be enough to leave no room. After a collecting pause both have as many objects.
  */
 #include "../plain_heap.h"
 #include "calls.h"
@@ -28,7 +28,7 @@ static struct { uint64_t rounds, calls, full, pauses; } sums;
 /* A round: its two heaps, and the sizes of the archive's. */
 static struct {
     uint64_t seed, calls;
-    uint32_t blocks, body_blocks;
+    uint32_t blocks, body_blocks, registers;
     lxr_heap lxr, plain;
 } now;
 
@@ -60,14 +60,22 @@ static uint32_t below(uint32_t end) { return (uint32_t)(draw() % end); }
 static bool one_in(uint32_t times) { return below(times) == 0; }
 
 static uint32_t wild(void) {
-    static const uint32_t numbers[] = { 0, 1, 15, 16, 17, 1023, 1024, 4095, 4096, 65535, 65536, UINT32_MAX - 1, UINT32_MAX };
+    static const uint32_t numbers[] = {
+        0, 1, 15, 16, 17, 63, 64, 65, 255, 256, 1023, 1024, 4095, 4096, 65535, 65536, UINT32_MAX - 1, UINT32_MAX
+    };
     return numbers[below(sizeof numbers / sizeof *numbers)];
 }
 
-static uint32_t some_register(void) { return one_in(200) ? wild() : below(LXR_REGISTERS); }
+/* A register, mostly one of the first: so that many of those that are looked at hold something. */
+static uint32_t any_register(void) { return below(one_in(4) ? now.registers : LXR_REGISTERS); }
+
+static uint32_t some_register(void) { return one_in(200) ? wild() : any_register(); }
 
 /* A register to be overwritten: seldom the one that has the world. */
-static uint32_t some_dest(void) { return one_in(50) ? some_register() : 1 + below(LXR_REGISTERS - 1); }
+static uint32_t some_dest(void) {
+    uint32_t dest = some_register();
+    return dest == 0 && !one_in(50) ? 1 : dest;
+}
 
 /* ---- What a base has ---- */
 
@@ -83,7 +91,7 @@ static uint32_t fields_of(uint32_t base, enum field sort) {
 /* A register, mostly one whose object has such fields. */
 static uint32_t some_base(enum field sort) {
     uint32_t base = some_register();
-    for (int tries = 0; tries < 12 && !one_in(30) && fields_of(base, sort) == 0; tries++) base = below(LXR_REGISTERS);
+    for (int tries = 0; tries < 12 && !one_in(30) && fields_of(base, sort) == 0; tries++) base = any_register();
     return base;
 }
 
@@ -216,6 +224,12 @@ static void call_nil(void) {
     agree("nil", calls_lxr.nil(&now.lxr, dest), calls_plain.nil(&now.plain, dest));
 }
 
+/* Mostly few of the last are let go of, and now and then all but few. */
+static void call_registers_in_use(void) {
+    uint32_t left = below(9), count = one_in(10) ? wild() : one_in(4) ? 1 + below(now.registers) : now.registers - left;
+    agree("registers_in_use", calls_lxr.registers_in_use(&now.lxr, count), calls_plain.registers_in_use(&now.plain, count));
+}
+
 /* A pace: never, by the room there is, each object, or so many bytes. */
 static uint64_t some_pace(void) {
     uint32_t drawn = below(4);
@@ -255,8 +269,8 @@ static uint32_t some_first(uint32_t base, enum field sort) { return one_in(3) ? 
 static void draw_registers(uint32_t *registers, size_t count, uint32_t but) {
     bool wild_ones = one_in(20);
     for (size_t at = 0; at < count; at++) {
-        registers[at] = wild_ones && one_in(20) ? wild() : below(LXR_REGISTERS);
-        if (registers[at] == but && !one_in(100)) registers[at] = (but + 1) % LXR_REGISTERS;
+        registers[at] = wild_ones && one_in(20) ? wild() : any_register();
+        if (registers[at] == but && !one_in(100)) registers[at] = (but + 1) % now.registers;
     }
 }
 
@@ -310,15 +324,15 @@ static void call_load_many(void) {
 static void call_store_many(void) {
     uint32_t base = some_base(REFS), first = some_first(base, REFS), registers[LONGEST];
     size_t count = some_part(base, first, REFS);
-    draw_registers(registers, count, LXR_REGISTERS);
+    draw_registers(registers, count, now.registers);
     agree("store_many", calls_lxr.store_many(&now.lxr, base, first, registers, count),
           calls_plain.store_many(&now.plain, base, first, registers, count));
 }
 
 /* Keeps two objects of a thousand references and stores to all of them: the second time the log is full before its end. */
 static void call_long_stores(void) {
-    uint32_t left = 1 + below(LXR_REGISTERS - 1), right = 1 + below(LXR_REGISTERS - 1), registers[LONGEST];
-    draw_registers(registers, LXR_MOST_REFS, LXR_REGISTERS);
+    uint32_t left = 1 + below(now.registers - 1), right = 1 + below(now.registers - 1), registers[LONGEST];
+    draw_registers(registers, LXR_MOST_REFS, now.registers);
     for (int news = 0; news < 2; news++) {
         lxr_code code = calls_lxr.new(&now.lxr, news ? left : right, LXR_MOST_REFS, 1);
         if (code == LXR_E_FULL) {
@@ -370,8 +384,8 @@ static void call_apply(void) {
 
 /* Whether all registers hold the like on both heaps. */
 static void agree_on_registers(void) {
-    for (uint32_t at = 0; at < LXR_REGISTERS; at++) {
-        uint32_t on_lxr[5] = { 0 }, on_plain[5] = { 0 }, with = below(LXR_REGISTERS);
+    for (uint32_t at = 0; at < now.registers; at++) {
+        uint32_t on_lxr[5] = { 0 }, on_plain[5] = { 0 }, with = any_register();
         on_lxr[0] = calls_lxr.shape(&now.lxr, at, &on_lxr[1], &on_lxr[2], &on_lxr[3]);
         on_plain[0] = calls_plain.shape(&now.plain, at, &on_plain[1], &on_plain[2], &on_plain[3]);
         for (size_t part = 0; part < 4; part++) agree("shape", on_lxr[part], on_plain[part]);
@@ -391,7 +405,7 @@ static const struct {
     { call_move, 40 },     { call_nil, 60 },       { call_same, 20 },       { call_big, 20 },          { call_bget, 20 },
     { call_bput, 20 },     { call_bread, 10 },     { call_bwrite, 10 },     { call_new_with, 60 },     { call_get_many, 30 },
     { call_put_many, 30 }, { call_load_many, 30 }, { call_store_many, 40 }, { call_apply, 30 },        { call_long_stores, 1 },
-    { call_pause, 4 },     { call_collect, 2 },    { call_set_pace, 1 },    { agree_on_registers, 2 },
+    { call_pause, 4 },     { call_collect, 2 },    { call_set_pace, 1 },    { agree_on_registers, 2 }, { call_registers_in_use, 6 },
 };
 
 static void make_call(void) {
@@ -403,6 +417,7 @@ static void make_call(void) {
 }
 
 static void play_round(uint64_t seed) {
+    static const uint32_t registers[] = { 0, LXR_REGISTERS, 64, LXR_MOST_REGISTERS };
     uint64_t pauses = 0;
     now.seed = state = seed;
     now.calls = 0;
@@ -411,6 +426,8 @@ static void play_round(uint64_t seed) {
     uint32_t calls = 1 + below(CALLS);
     lxr_settings settings = LXR_SETTINGS(now.blocks, now.body_blocks);
     settings.pace = some_pace();
+    settings.registers = registers[below(4)];
+    now.registers = settings.registers ? settings.registers : LXR_REGISTERS;
     agree("open", calls_lxr.open(&now.lxr, &settings), calls_plain.open(&now.plain, &settings));
     while (now.calls < calls) make_call();
     agree_on_registers();

@@ -84,6 +84,8 @@ static void refuse_all(lxr_mutator *mutator, lxr_code code) {
     REFUSED(lxr_mutator_same(mutator, 1, 1, &narrow), code);
     REFUSED(lxr_mutator_move(mutator, 1, 1), code);
     REFUSED(lxr_mutator_nil(mutator, 1), code);
+    REFUSED(lxr_mutator_registers_in_use(mutator, 1), code);
+    REFUSED(lxr_mutator_registers_in_use(mutator, 0), code);
     refuse_several(mutator, code);
     REFUSED(lxr_mutator_pause(mutator), code);
     REFUSED(lxr_mutator_collect(mutator), code);
@@ -151,6 +153,17 @@ static void try_settings(void) {
     }
 }
 
+/* 16 to 256 registers, or 0 for sixteen. */
+static void try_registers(void) {
+    const uint32_t tried[] = { 0, 1, 15, 16, 17, 255, 256, 257, 65536, 65536 + 16, LAST };
+    for (size_t at = 0; at < sizeof tried / sizeof tried[0]; at++) {
+        lxr_shared_heap_settings settings = LXR_SHARED_HEAP_SETTINGS(8, 2);
+        IS(settings.registers, 16);
+        settings.registers = tried[at];
+        try_open(&settings, tried[at] == 0 || (tried[at] >= 16 && tried[at] <= 256));
+    }
+}
+
 /* Heaps of the header's own settings, and those of which as much is evacuated as may be, and more. */
 static void try_blocks(void) {
     const uint32_t tried[] = { 0, 1, 7, 8, 511, 512, 1024, 1025, LARGEST, LXR_MOST_SHARED_BLOCKS + 1, 1u << 31, LAST };
@@ -202,8 +215,9 @@ static void try_handles(void) {
 
 /* ---- Operations ---- */
 
-static void try_numbers(lxr_mutator *mutator) {
-    const uint32_t bad[] = { 16, 17, 255, 256, 65536, LAST };
+/* Numbers of registers that a mutator hasn't which has so many. */
+static void try_numbers(lxr_mutator *mutator, uint32_t registers) {
+    const uint32_t bad[] = { registers, registers + 1, 256, 257, 65536, LAST };
     for (size_t at = 0; at < sizeof bad / sizeof bad[0]; at++) {
         uint32_t r = bad[at];
         REFUSED(lxr_mutator_new(mutator, r, 1, 1), LXR_E_REGISTER);
@@ -226,7 +240,45 @@ static void try_numbers(lxr_mutator *mutator) {
     REFUSED(lxr_mutator_new(mutator, 1, 1024, 0), LXR_E_SIZE);
     REFUSED(lxr_mutator_new(mutator, 1, 0, 1024), LXR_E_SIZE);
     REFUSED(lxr_mutator_new(mutator, 1, LAST, LAST), LXR_E_SIZE);
-    REFUSED(lxr_mutator_new(mutator, 16, LAST, LAST), LXR_E_REGISTER);
+    REFUSED(lxr_mutator_new(mutator, registers, LAST, LAST), LXR_E_REGISTER);
+}
+
+/* Which registers are nil: all but 0, from this one on. */
+static void are_nil(lxr_mutator *mutator, uint32_t registers, uint32_t from) {
+    for (uint32_t at = 1; at < registers; at++) {
+        uint64_t word = 0;
+        IS(lxr_mutator_get(mutator, at, 0, &word), at < from ? LXR_OK : LXR_E_NIL);
+    }
+}
+
+/* So many registers: all of them are there, and those that aren't in use are nil. */
+static void try_in_use(uint32_t registers) {
+    lxr_shared_heap *heap = NULL;
+    lxr_mutator *mutator = NULL;
+    lxr_shared_heap_settings settings = LXR_SHARED_HEAP_SETTINGS(8, 2);
+    settings.registers = registers;
+    IS(lxr_shared_heap_open(&heap, &settings), LXR_OK);
+    IS(lxr_mutator_registers_in_use(mutator, LAST), LXR_E_NO_HEAP);
+    IS(lxr_mutator_enter(heap, &mutator), LXR_OK);
+    try_numbers(mutator, registers);
+    for (uint32_t at = 1; at < registers; at++) IS(lxr_mutator_new(mutator, at, 0, 1), LXR_OK);
+    const uint32_t bad[] = { 0, registers + 1, 257, LAST };
+    for (size_t at = 0; at < sizeof bad / sizeof bad[0]; at++) IS(lxr_mutator_registers_in_use(mutator, bad[at]), LXR_E_REGISTER);
+    IS(lxr_mutator_registers_in_use(mutator, registers), LXR_OK);
+    are_nil(mutator, registers, registers);
+    IS(lxr_mutator_registers_in_use(mutator, 9), LXR_OK);
+    are_nil(mutator, registers, 9);
+    IS(lxr_mutator_pause(mutator), LXR_OK);
+    IS(lxr_mutator_move(mutator, registers - 1, 8), LXR_OK);
+    IS(lxr_mutator_collect(mutator), LXR_OK);
+    IS(lxr_mutator_put(mutator, registers - 1, 0, 1), LXR_OK);
+    IS(lxr_mutator_rest(mutator), LXR_OK);
+    IS(lxr_mutator_registers_in_use(mutator, 1), LXR_E_RESTS);
+    IS(lxr_mutator_wake(mutator), LXR_OK);
+    IS(lxr_mutator_registers_in_use(mutator, 1), LXR_OK);
+    are_nil(mutator, registers, 1);
+    IS(lxr_mutator_leave(&mutator), LXR_OK);
+    IS(lxr_shared_heap_close(&heap), LXR_OK);
 }
 
 /* Register 0 keeps the world. */
@@ -510,11 +562,15 @@ int main(int words, char **unused) {
     try_sizes();
     try_first();
     try_settings();
+    try_registers();
     try_blocks();
+    try_in_use(16);
+    try_in_use(64);
+    try_in_use(256);
     try_handles();
     IS(lxr_shared_heap_open(&heap, &settings), LXR_OK);
     IS(lxr_mutator_enter(heap, &mutator), LXR_OK);
-    try_numbers(mutator);
+    try_numbers(mutator, 16);
     try_world(mutator);
     try_fields(mutator);
     try_several(mutator);

@@ -3,11 +3,12 @@
  *
  * usage: threads_random SECONDS [SEED]     rounds for so long, each from a number of its own on; with 0 seconds one round, from SEED
  *
- * A round opens a heap of 1 to 3,000 blocks, of which a trace evacuates up to an eighth, for 1 to 255 mutators, and starts threads: mostly up
- * to sixteen, and rarely more. They enter and leave it, rest, poll, ask for pauses, and make some thousand operations each, or as many together
- * where they are more. What only one thread holds is kept beside the heap as a plain graph, and each code and word has to be that of the graph.
- * What threads share has to keep what they agree on: tokens that are swapped stay as many as they were, and one thread or field holds each;
- * adds to a counter lose nothing; and an object that a thread finds is one that was made whole before it was stored.
+ * A round opens a heap of 1 to 3,000 blocks, of which a trace evacuates up to an eighth, for 1 to 255 mutators with 16, 64 or 256 registers
+ * each, and starts threads: mostly up to sixteen, and rarely more. They enter and leave it, rest, poll, ask for pauses, and make some thousand
+ * operations each, or as many together where they are more. What only one thread holds is kept beside the heap as a plain graph, and each
+ * code and word has to be that of the graph. What threads share has to keep what they agree on: tokens that are swapped stay as many as they
+ * were, and one thread or field holds each; adds to a counter lose nothing; and an object that a thread finds is one that was made whole
+ * before it was stored.
  */
 #include "../lxr_threads.h"
 
@@ -21,7 +22,7 @@
 #include <time.h>
 
 /* Registers: the world, a token, what is shared, a published object; from OWN on a thread's own objects. The last is always nil. */
-enum { WORLD, TOKEN, COUNTER, FOUND, OWN, NIL_REGISTER = LXR_REGISTERS - 1 };
+enum { WORLD, TOKEN, COUNTER, FOUND, OWN };
 
 /* References of the world: places for tokens, the counter, and a published object of each thread up to the last place. */
 enum { TOKEN_PLACES = 8, COUNTER_PLACE = 8, PUBLISHED = 16, PUBLISHERS = LXR_WORLD_REFS - PUBLISHED };
@@ -48,7 +49,7 @@ struct player {
     uint32_t number;
     uint64_t dice, adds[COUNTER_WORDS], least[COUNTER_WORDS], published, seen[PUBLISHERS];
     uint64_t token; /* the token that it holds, or 0 */
-    struct node *registers[LXR_REGISTERS], *newest;
+    struct node *registers[LXR_MOST_REGISTERS], *newest;
     lxr_mutator *mutator;
     uint64_t operations, fulls, pauses;
 };
@@ -56,7 +57,7 @@ struct player {
 static struct {
     uint64_t seed;
     lxr_shared_heap *heap;
-    uint32_t players, tokens;
+    uint32_t players, tokens, registers;
     struct player player[LXR_MOST_MUTATORS];
 } now;
 
@@ -92,10 +93,13 @@ static uint32_t below(struct player *player, uint32_t end) { return (uint32_t)(d
 
 static bool one_in(struct player *player, uint32_t times) { return below(player, times) == 0; }
 
-/* A register of the thread's own; rarely one that isn't there. */
+/* The register that is always nil: the last. */
+static uint32_t nil_register(void) { return now.registers - 1; }
+
+/* A register of the thread's own, mostly one of the first; rarely one that isn't there. */
 static uint32_t own(struct player *player) {
-    if (one_in(player, 200)) return LXR_REGISTERS + below(player, 3) * 1000;
-    return OWN + below(player, NIL_REGISTER - OWN);
+    if (one_in(player, 200)) return now.registers + below(player, 3) * 1000;
+    return OWN + below(player, (one_in(player, 5) ? nil_register() : LXR_REGISTERS - 1) - OWN);
 }
 
 /* What an object that a thread publishes has in its second word, by what the first has. */
@@ -130,7 +134,7 @@ static void drop_own(struct player *player) {
 /* Makes room in a heap that is full. */
 static void let_go(struct player *player) {
     player->fulls++;
-    for (uint32_t at = OWN; at < NIL_REGISTER; at++) {
+    for (uint32_t at = OWN; at < nil_register(); at++) {
         if (one_in(player, 3)) continue;
         done(player, "nil", lxr_mutator_nil(player->mutator, at));
         player->registers[at] = NULL;
@@ -141,7 +145,7 @@ static void play_new(struct player *player) {
     uint32_t dest = own(player), refs = below(player, MOST_FIELDS + 1), words = below(player, MOST_FIELDS + 1);
     bool wild = one_in(player, 300);
     lxr_code code = lxr_mutator_new(player->mutator, dest, wild ? 1024 + refs : refs, words);
-    uint32_t wanted = dest >= LXR_REGISTERS ? LXR_E_REGISTER : wild ? LXR_E_SIZE : LXR_OK;
+    uint32_t wanted = dest >= now.registers ? LXR_E_REGISTER : wild ? LXR_E_SIZE : LXR_OK;
     if (code == LXR_E_FULL && wanted == LXR_OK) {
         let_go(player);
         return;
@@ -159,7 +163,7 @@ static lxr_code field_code(const struct player *player, uint32_t base, uint32_t 
 
 static void play_load(struct player *player) {
     uint32_t dest = own(player), base = own(player), index = below(player, MOST_FIELDS);
-    bool fits = dest < LXR_REGISTERS && base < LXR_REGISTERS;
+    bool fits = dest < now.registers && base < now.registers;
     uint32_t wanted = fits ? field_code(player, base, index, false) : LXR_E_REGISTER;
     agree(player, "load", lxr_mutator_load(player->mutator, dest, base, index), wanted);
     if (wanted == LXR_OK) player->registers[dest] = player->registers[base]->ref[index];
@@ -167,7 +171,7 @@ static void play_load(struct player *player) {
 
 static void play_store(struct player *player) {
     uint32_t base = own(player), index = below(player, MOST_FIELDS), source = own(player);
-    bool fits = source < LXR_REGISTERS && base < LXR_REGISTERS;
+    bool fits = source < now.registers && base < now.registers;
     uint32_t wanted = fits ? field_code(player, base, index, false) : LXR_E_REGISTER;
     agree(player, "store", lxr_mutator_store(player->mutator, base, index, source), wanted);
     if (wanted == LXR_OK) player->registers[base]->ref[index] = player->registers[source];
@@ -175,7 +179,7 @@ static void play_store(struct player *player) {
 
 static void play_swap(struct player *player) {
     uint32_t dest = own(player), base = own(player), index = below(player, MOST_FIELDS), source = own(player);
-    bool fits = dest < LXR_REGISTERS && source < LXR_REGISTERS && base < LXR_REGISTERS;
+    bool fits = dest < now.registers && source < now.registers && base < now.registers;
     uint32_t wanted = fits ? field_code(player, base, index, false) : LXR_E_REGISTER;
     agree(player, "swap", lxr_mutator_swap(player->mutator, dest, base, index, source), wanted);
     if (wanted != LXR_OK) return;
@@ -187,7 +191,7 @@ static void play_swap(struct player *player) {
 static void play_word(struct player *player) {
     uint32_t base = own(player), index = below(player, MOST_FIELDS), which = below(player, 3);
     uint64_t word = draw(&player->dice), old = 0xA5A5;
-    uint32_t wanted = base < LXR_REGISTERS ? field_code(player, base, index, true) : LXR_E_REGISTER;
+    uint32_t wanted = base < now.registers ? field_code(player, base, index, true) : LXR_E_REGISTER;
     lxr_code code = which == 0   ? lxr_mutator_get(player->mutator, base, index, &old)
                     : which == 1 ? lxr_mutator_add(player->mutator, base, index, word, &old)
                                  : lxr_mutator_put(player->mutator, base, index, word);
@@ -198,17 +202,25 @@ static void play_word(struct player *player) {
     if (there && which == 2) *there = word;
 }
 
+/* Few registers are in use from here on; rarely a number that there isn't. */
+static void play_in_use(struct player *player) {
+    uint32_t count = one_in(player, 10) ? below(player, 2) * (now.registers + 1) : OWN + below(player, now.registers + 1 - OWN);
+    bool fits = count != 0 && count <= now.registers;
+    agree(player, "registers_in_use", lxr_mutator_registers_in_use(player->mutator, count), fits ? LXR_OK : LXR_E_REGISTER);
+    for (uint32_t at = count; fits && at < now.registers; at++) player->registers[at] = NULL;
+}
+
 static void play_registers(struct player *player) {
     uint32_t dest = own(player), source = own(player), same = 7;
-    bool fits = dest < LXR_REGISTERS && source < LXR_REGISTERS;
+    bool fits = dest < now.registers && source < now.registers;
     switch (below(player, 3)) {
     case 0:
         agree(player, "move", lxr_mutator_move(player->mutator, dest, source), fits ? LXR_OK : LXR_E_REGISTER);
         if (fits) player->registers[dest] = player->registers[source];
         break;
     case 1:
-        agree(player, "nil", lxr_mutator_nil(player->mutator, dest), dest < LXR_REGISTERS ? LXR_OK : LXR_E_REGISTER);
-        if (dest < LXR_REGISTERS) player->registers[dest] = NULL;
+        agree(player, "nil", lxr_mutator_nil(player->mutator, dest), dest < now.registers ? LXR_OK : LXR_E_REGISTER);
+        if (dest < now.registers) player->registers[dest] = NULL;
         break;
     default:
         agree(player, "same", lxr_mutator_same(player->mutator, dest, source, &same), fits ? LXR_OK : LXR_E_REGISTER);
@@ -223,7 +235,7 @@ static bool draw_registers(struct player *player, uint32_t *registers, size_t co
     bool there = true;
     for (size_t at = 0; at < count; at++) {
         registers[at] = own(player);
-        there = there && registers[at] < LXR_REGISTERS;
+        there = there && registers[at] < now.registers;
     }
     return there;
 }
@@ -238,7 +250,7 @@ static void play_new_with(struct player *player) {
     uint32_t dest = own(player), sources[MOST_FIELDS];
     size_t refs = below(player, MOST_FIELDS + 1), words = below(player, MOST_FIELDS + 1);
     uint64_t data[MOST_FIELDS] = { draw(&player->dice), 1, 2, 3, 4, draw(&player->dice) };
-    bool there = draw_registers(player, sources, refs) && dest < LXR_REGISTERS && !is_among(sources, refs, dest);
+    bool there = draw_registers(player, sources, refs) && dest < now.registers && !is_among(sources, refs, dest);
     lxr_code code = lxr_mutator_new_with(player->mutator, dest, sources, refs, data, words);
     if (code == LXR_E_FULL && there) {
         let_go(player);
@@ -258,7 +270,7 @@ static void play_words(struct player *player) {
     size_t count = below(player, MOST_FIELDS + 1);
     uint64_t found[MOST_FIELDS] = { 0 }, wanted[MOST_FIELDS] = { 0 };
     bool puts = one_in(player, 2);
-    lxr_code expected = base < LXR_REGISTERS ? LXR_OK : LXR_E_REGISTER;
+    lxr_code expected = base < now.registers ? LXR_OK : LXR_E_REGISTER;
     for (size_t at = 0; at < count; at++) wanted[at] = found[at] = draw(&player->dice);
     lxr_code code = puts ? lxr_mutator_put_many(player->mutator, base, first, wanted, count)
                          : lxr_mutator_get_many(player->mutator, base, first, found, count);
@@ -276,7 +288,7 @@ static void play_words(struct player *player) {
 static void play_refs(struct player *player) {
     uint32_t base = own(player), first = below(player, MOST_FIELDS), registers[MOST_FIELDS];
     size_t count = below(player, MOST_FIELDS + 1);
-    bool loads = one_in(player, 2), there = draw_registers(player, registers, count) && base < LXR_REGISTERS;
+    bool loads = one_in(player, 2), there = draw_registers(player, registers, count) && base < now.registers;
     lxr_code code = loads ? lxr_mutator_load_many(player->mutator, base, first, registers, count)
                           : lxr_mutator_store_many(player->mutator, base, first, registers, count);
     if (loads && count && is_among(registers, count - 1, base)) there = false;
@@ -307,8 +319,8 @@ static lxr_operation draw_operation(struct player *player) {
 
 /* Whether all registers of an operation are there. */
 static bool is_there(const lxr_operation *it) {
-    if (it->a >= LXR_REGISTERS || it->b >= LXR_REGISTERS || it->c >= LXR_REGISTERS) return false;
-    return it->op != LXR_OP_SWAP || it->word < LXR_REGISTERS;
+    if (it->a >= now.registers || it->b >= now.registers || it->c >= now.registers) return false;
+    return it->op != LXR_OP_SWAP || it->word < now.registers;
 }
 
 /* Does an operation on the graph: its code, and what it tells. */
@@ -408,7 +420,7 @@ static void play_counter(struct player *player) {
 }
 
 static void publish(struct player *player) {
-    const uint32_t source = NIL_REGISTER;
+    const uint32_t source = nil_register();
     uint64_t word = ++player->published, words[2] = { word, seal(player->number, word) };
     bool whole = one_in(player, 2);
     lxr_code code =
@@ -446,11 +458,11 @@ static void enter(struct player *player) {
     }
     done(player, "enter", code);
     uint32_t same = 0;
-    for (uint32_t at = 1; at < LXR_REGISTERS; at++) {
-        done(player, "same", lxr_mutator_same(player->mutator, at, NIL_REGISTER, &same));
+    for (uint32_t at = 1; at < now.registers; at++) {
+        done(player, "same", lxr_mutator_same(player->mutator, at, nil_register(), &same));
         agree(player, "a register of a thread that has entered", same, 1);
     }
-    done(player, "same", lxr_mutator_same(player->mutator, WORLD, NIL_REGISTER, &same));
+    done(player, "same", lxr_mutator_same(player->mutator, WORLD, nil_register(), &same));
     agree(player, "the world of a thread that has entered", same, 0);
 }
 
@@ -497,7 +509,7 @@ static void play_once(struct player *player) {
     case 4: play_swap(player); break;
     case 5:
     case 6: play_word(player); break;
-    case 7: play_registers(player); break;
+    case 7: one_in(player, 10) ? play_in_use(player) : play_registers(player); break;
     case 8: play_token(player); break;
     case 9: play_counter(player); break;
     case 10:
@@ -576,6 +588,12 @@ static uint32_t draw_evacuate(uint64_t *dice, const lxr_shared_heap_settings *se
     return draw(dice) % 2 ? settings->evacuate : (uint32_t)draw(dice) % (settings->blocks / 8 + 1);
 }
 
+/* As many registers as without a word, as there can be, or some between. */
+static uint32_t draw_registers_of(uint64_t *dice) {
+    static const uint32_t some[] = { 0, LXR_REGISTERS, 64, LXR_MOST_REGISTERS };
+    return some[draw(dice) % 4];
+}
+
 /* As many mutators as threads, or one fewer, or any number above. */
 static uint32_t draw_mutators(uint64_t *dice) {
     uint32_t kind = (uint32_t)draw(dice) % 4;
@@ -596,6 +614,7 @@ static lxr_shared_heap_settings draw_settings(uint64_t *dice) {
     settings.pace = draw(dice) % 3 == 0 ? LXR_PACE_ROOM : draw(dice) % 2 ? LXR_PACE_NEVER : 1 + draw(dice) % 20000;
     settings.trace = 1 + (uint32_t)draw(dice) % 8;
     settings.within = 1 + (uint32_t)draw(dice) % 4;
+    settings.registers = draw_registers_of(dice);
     return settings;
 }
 
@@ -618,6 +637,7 @@ static void play_round(uint64_t seed) {
     now.players = draw_players(&dice);
     now.tokens = (uint32_t)draw(&dice) % TOKEN_PLACES;
     lxr_shared_heap_settings settings = draw_settings(&dice);
+    now.registers = settings.registers ? settings.registers : LXR_REGISTERS;
     pthread_t threads[LXR_MOST_MUTATORS];
     done(&keeper, "open", lxr_shared_heap_open(&now.heap, &settings));
     set_out(&keeper);

@@ -85,6 +85,42 @@ void roots() {
     CHECK(heap.live() == 1);
 }
 
+/// A heap with more registers has more roots; each of them holds its own object, and registers that were given back are taken again.
+void many_roots() {
+    lxr_settings settings LXR_SETTINGS(8, 1);
+    for (std::uint32_t registers : {16u, 17u, 64u, 255u, 256u}) {
+        settings.registers = registers;
+        lxr::heap heap(settings);
+        std::vector<lxr::root> held;
+        for (std::uint64_t at = 0; at < registers - 2; ++at) held.push_back(heap.make_with({}, {at}));
+        CHECK(throws(lxr::errc::no_register, [&] { (void)heap.make(0, 1); }));
+        heap.collect();
+        for (std::uint64_t at = 0; at < held.size(); ++at) CHECK(held[at].get(0) == at);
+        held[5].reset();
+        held[2].reset();
+        held[2] = heap.make_with({}, {100});
+        held[5] = heap.make_with({}, {101});
+        CHECK(throws(lxr::errc::no_register, [&] { (void)heap.make(0, 1); }));
+        CHECK(held[2].get(0) == 100 && held[5].get(0) == 101 && held[3].get(0) == 3);
+        heap.registers_in_use(4);
+        CHECK(held[1].get(0) == 1 && held[2].get(0) == 100 && !held[3] && !held.back());
+        CHECK(throws(lxr::errc::no_register, [&] { heap.registers_in_use(0); }));
+        CHECK(throws(lxr::errc::no_register, [&] { heap.registers_in_use(registers + 1); }));
+        held.clear();
+        heap.collect();
+        CHECK(heap.live() == 0);
+    }
+    for (std::uint32_t registers : {1u, 15u, 257u}) {
+        settings.registers = registers;
+        CHECK(throws(lxr::errc::size, [&] { lxr::heap none(settings); }));
+    }
+    settings.registers = 0;
+    lxr::heap heap(settings);
+    std::vector<lxr::root> held;
+    for (int at = 0; at < 14; ++at) held.push_back(heap.make(0, 1));
+    CHECK(throws(lxr::errc::no_register, [&] { (void)heap.make(0, 1); }));
+}
+
 void world() {
     lxr::heap heap(1);
     CHECK(heap.world().shape().refs == LXR_WORLD_REFS);
@@ -259,6 +295,7 @@ int main() {
     try {
         lists();
         roots();
+        many_roots();
         world();
         made_with_fields();
         many_fields();

@@ -241,6 +241,31 @@ void evacuates() {
     }
 }
 
+/// As many registers as the settings say: all but two of them are for locals, and those that are in use no more are nil.
+void registers() {
+    lxr_shared_heap_settings settings = LXR_SHARED_HEAP_SETTINGS(8, 2);
+    CHECK(settings.registers == 16);
+    for (const std::uint32_t registers : {0U, 16U, 17U, 64U, 256U}) {
+        settings.registers = registers;
+        const std::uint32_t count = registers == 0 ? 16 : registers;
+        const lxr::shared_heap heap(settings);
+        lxr::mutator self(heap);
+        std::vector<lxr::local> held;
+        for (std::uint64_t at = 0; at < count - 2; ++at) held.push_back(self.make_with({}, {at}));
+        CHECK(throws(lxr::errc::no_register, [&] { (void)self.make(0, 1); }));
+        self.collect();
+        for (std::uint64_t at = 0; at < held.size(); ++at) CHECK(held[at].get(0) == at);
+        self.registers_in_use(4);
+        CHECK(held[2].get(0) == 2 && !held[3] && !held.back());
+        CHECK(throws(lxr::errc::no_register, [&] { self.registers_in_use(0); }));
+        CHECK(throws(lxr::errc::no_register, [&] { self.registers_in_use(count + 1); }));
+    }
+    for (const std::uint32_t wrong : {1U, 15U, 257U}) {
+        settings.registers = wrong;
+        CHECK(throws(lxr::errc::size, [&] { lxr::shared_heap none(settings); }));
+    }
+}
+
 /// Lists whose objects are made with their fields, beside other threads; and operations in a row.
 void several_at_once() {
     lxr::shared_heap heap(8, hosts);
@@ -309,6 +334,7 @@ int main() {
         errors();
         paces();
         evacuates();
+        registers();
         full_heaps();
     } catch (const std::exception& wrong) {
         std::cerr << wrong.what() << '\n';

@@ -9,7 +9,7 @@ use kogyulen_sys as raw;
 #[derive(Clone, Copy, Debug, PartialEq, Eq, Hash)]
 #[non_exhaustive]
 pub enum Error {
-    /// A number of references, data words or blocks is out of its range.
+    /// A number of references, data words, blocks or registers is out of its range.
     Size,
     /// The base register is nil.
     Nil,
@@ -19,7 +19,8 @@ pub enum Error {
     Full,
     /// The machine has no memory for the heap, or starts no further thread.
     Memory,
-    /// A register that can't be written to: register 0 of a mutator, which keeps the world, or one that the same call reads too.
+    /// The heap has no such register, or it can't be written to: register 0 of a mutator, which keeps the world, or one that the same call
+    /// reads too.
     Register,
     /// As many mutators are in the heap as may be.
     Number,
@@ -39,7 +40,7 @@ impl fmt::Display for Error {
             Error::Index => f.write_str("the object has no such field"),
             Error::Full => f.write_str("the heap is full"),
             Error::Memory => f.write_str("out of memory"),
-            Error::Register => f.write_str("the register can't be written to"),
+            Error::Register => f.write_str("there is no such register, or it can't be written to"),
             Error::Number => f.write_str("no place for a further mutator"),
             Error::UsedUp => f.write_str("names are to be renewed first"),
             Error::Lost => f.write_str("the heap is lost for want of memory"),

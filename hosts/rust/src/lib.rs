@@ -1,6 +1,6 @@
 //! A garbage-collected heap, whose collector is proved, for one thread; and one that threads share, in [`threads`].
 //!
-//! Objects have references and data words of 64 bits, and live in a [`Heap`]. A program holds them by sixteen registers: what a
+//! Objects have references and data words of 64 bits, and live in a [`Heap`]. A program holds them by 16 to 256 registers: what a
 //! [`Register`] holds is kept, and what kept objects refer to. All else is reclaimed by pauses, which the heap makes where it needs room,
 //! and the program where it likes. Objects have no addresses here, since pauses move them.
 //!
@@ -72,10 +72,12 @@ pub struct Shape {
     pub blocks: u32,
 }
 
-/// A heap and its sixteen registers. It has one owner, and is freed when that lets go of it. It may go to another thread, and is used by one at
-/// a time.
+/// A heap and its registers, sixteen or as many as its settings say. It has one owner, and is freed when that lets go of it. It may go to
+/// another thread, and is used by one at a time.
 ///
 /// At first [`R0`] holds the world, an object with [`WORLD_REFS`] references that is kept for good, and the other registers are nil.
+///
+/// A register that the heap hasn't is [`Error::Register`], and a panic of a method that has no error.
 ///
 /// ```compile_fail
 /// let heap = kogyulen::Heap::open(&kogyulen::Settings::new(1)).unwrap();
@@ -88,6 +90,7 @@ pub struct Shape {
 /// ```
 pub struct Heap {
     handle: raw::Handle,
+    registers: u32,
 }
 
 // SAFETY: what a handle owns names no thread, by the clause `HandlesCross` of `handles_cross` in the library's crate lxr_c_heap. So any thread may
@@ -100,10 +103,38 @@ impl Heap {
     /// # Errors
     /// [`Error::Size`] and [`Error::Memory`].
     pub fn open(settings: &Settings) -> Result<Heap, Error> {
-        let mut heap = Heap { handle: raw::Handle::EMPTY };
+        let registers = if settings.registers == 0 { raw::LXR_REGISTERS } else { settings.registers };
+        let mut heap = Heap { handle: raw::Handle::EMPTY, registers };
         // SAFETY: the handle is empty, in no other call, and written by the library alone; so it is in each call below. The settings outlive it.
         done(unsafe { raw::lxr_open(&mut heap.handle, &settings.raw()) })?;
         Ok(heap)
+    }
+
+    /// Its registers, in order.
+    pub fn registers(&self) -> impl DoubleEndedIterator<Item = Register> + ExactSizeIterator {
+        register::first(self.registers)
+    }
+
+    /// The first so many registers stay in use, and all others become nil: as where a call stack is cut back. What a pause takes grows with
+    /// the registers in use, up to the last that holds an object or did at the last pause.
+    ///
+    /// ```
+    /// # use kogyulen::{Heap, Register, Settings, R2};
+    /// # fn main() -> Result<(), kogyulen::Error> {
+    /// let mut heap = Heap::open(&Settings::new(1).registers(256))?;
+    /// for register in heap.registers().skip(1) {
+    ///     heap.make(register, 0, 1)?;
+    /// }
+    /// heap.registers_in_use(2)?;
+    /// assert!(heap.is_nil(R2));
+    /// # Ok(())
+    /// # }
+    /// ```
+    ///
+    /// # Errors
+    /// [`Error::Register`] where `count` is 0, since [`R0`] has the world, or more than the heap has.
+    pub fn registers_in_use(&mut self, count: u32) -> Result<(), Error> {
+        done(unsafe { raw::lxr_registers_in_use(&mut self.handle, count) })
     }
 
     /// The register holds a new object with nil references and words of 0; at most 1,023 of each. Where there is no room, the heap makes a
@@ -267,13 +298,20 @@ impl Heap {
     }
 
     /// How many fields the base's object has; `None` where the register is nil.
+    #[track_caller]
     pub fn shape(&self, base: Register) -> Option<Shape> {
         let mut shape = Shape { refs: 0, words: 0, blocks: 0 };
-        let code = unsafe { raw::lxr_shape(&self.handle, base.number(), &mut shape.refs, &mut shape.words, &mut shape.blocks) };
-        done(code).ok().map(|()| shape)
+        match unsafe { raw::lxr_shape(&self.handle, base.number(), &mut shape.refs, &mut shape.words, &mut shape.blocks) } {
+            raw::LXR_E_NIL => None,
+            code => {
+                sure(code);
+                Some(shape)
+            }
+        }
     }
 
     /// Whether both registers are nil or hold one object.
+    #[track_caller]
     pub fn same(&self, left: Register, right: Register) -> bool {
         let mut same = 0;
         sure(unsafe { raw::lxr_same(&self.handle, left.number(), right.number(), &mut same) });
@@ -281,6 +319,7 @@ impl Heap {
     }
 
     /// Whether the register is nil.
+    #[track_caller]
     pub fn is_nil(&self, source: Register) -> bool {
         let mut is_nil = 0;
         sure(unsafe { raw::lxr_is_nil(&self.handle, source.number(), &mut is_nil) });
@@ -288,11 +327,13 @@ impl Heap {
     }
 
     /// A register holds what another holds, or becomes nil.
+    #[track_caller]
     pub fn copy(&mut self, dest: Register, source: Register) {
         sure(unsafe { raw::lxr_move(&mut self.handle, dest.number(), source.number()) });
     }
 
     /// The register becomes nil.
+    #[track_caller]
     pub fn clear(&mut self, dest: Register) {
         sure(unsafe { raw::lxr_nil(&mut self.handle, dest.number()) });
     }
@@ -340,7 +381,10 @@ pub fn version() -> (u32, u32, u32) {
     (version >> 16, version >> 8 & 0xff, version & 0xff)
 }
 
-/// A call on an open heap with registers below 16 is never refused.
+/// A call on an open heap is refused for a register that it hasn't alone.
+#[track_caller]
 fn sure(code: raw::Code) {
-    debug_assert_eq!(done(code), Ok(()));
+    if let Err(error) = done(code) {
+        panic!("{error}");
+    }
 }

@@ -2,13 +2,16 @@
 
 use std::fmt;
 
-/// One of the sixteen registers of a heap.
+use kogyulen_sys as raw;
+
+/// One of the registers of a heap: of sixteen, or of as many as its settings say, up to 256.
 ///
 /// ```
 /// use kogyulen::{Register, R3};
 ///
 /// assert_eq!(Register::new(3), Some(R3));
-/// assert_eq!(Register::new(16), None);
+/// assert_eq!(Register::new(255).map(Register::number), Some(255));
+/// assert_eq!(Register::new(256), None);
 /// assert_eq!(R3.to_string(), "r3");
 /// assert_eq!(Register::all().count(), 16);
 /// ```
@@ -17,24 +20,30 @@ use std::fmt;
 pub struct Register(u32);
 
 impl Register {
-    /// The register of a number from 0 to 15.
+    /// The register of a number from 0 to 255. A heap whose settings don't say otherwise has those up to 15.
     pub const fn new(number: u32) -> Option<Register> {
-        if number < 16 {
+        if number < raw::LXR_MOST_REGISTERS {
             Some(Register(number))
         } else {
             None
         }
     }
 
-    /// Its number, from 0 to 15.
+    /// Its number, from 0 to 255.
     pub const fn number(self) -> u32 {
         self.0
     }
 
-    /// All sixteen, in order.
+    /// The sixteen that each heap has, in order. Those of one heap are [`Heap::registers`](crate::Heap::registers).
     pub fn all() -> impl DoubleEndedIterator<Item = Register> + ExactSizeIterator {
-        (0..16).map(Register)
+        first(raw::LXR_REGISTERS)
     }
+}
+
+/// The first so many, in order.
+pub(crate) fn first(count: u32) -> impl DoubleEndedIterator<Item = Register> + ExactSizeIterator {
+    debug_assert!(count <= raw::LXR_MOST_REGISTERS);
+    (0..count).map(Register)
 }
 
 /// The numbers of registers, as the library reads them.

@@ -10,7 +10,8 @@ use kogyulen_sys as raw;
 /// use kogyulen::{Heap, Pace, Settings};
 ///
 /// # fn main() -> Result<(), kogyulen::Error> {
-/// let heap = Heap::open(&Settings::new(64).body_blocks(4).pace(Pace::Bytes(1 << 18)))?;
+/// let heap = Heap::open(&Settings::new(64).body_blocks(4).pace(Pace::Bytes(1 << 18)).registers(64))?;
+/// assert_eq!(heap.registers().count(), 64);
 /// # Ok(())
 /// # }
 /// ```
@@ -23,12 +24,14 @@ pub struct Settings {
     pub body_blocks: u32,
     /// When plain pauses come by themselves.
     pub pace: Pace,
+    /// Registers, 16 to 256; 0 for 16.
+    pub registers: u32,
 }
 
 impl Settings {
-    /// So many blocks for objects, one for bodies, and plain pauses by the room there is.
+    /// So many blocks for objects, one for bodies, plain pauses by the room there is, and sixteen registers.
     pub const fn new(blocks: u32) -> Settings {
-        Settings { blocks, body_blocks: 1, pace: Pace::Room }
+        Settings { blocks, body_blocks: 1, pace: Pace::Room, registers: raw::LXR_REGISTERS }
     }
 
     /// So many blocks for bodies.
@@ -43,9 +46,15 @@ impl Settings {
         self
     }
 
+    /// So many registers.
+    pub const fn registers(mut self, registers: u32) -> Settings {
+        self.registers = registers;
+        self
+    }
+
     pub(crate) fn raw(&self) -> raw::Settings {
-        let &Settings { blocks, body_blocks, pace } = self;
-        raw::Settings { size: size_of::<raw::Settings>() as u64, blocks, body_blocks, pace: pace.bytes() }
+        let &Settings { blocks, body_blocks, pace, registers } = self;
+        raw::Settings { size: size_of::<raw::Settings>() as u64, blocks, body_blocks, pace: pace.bytes(), registers, unused: 0 }
     }
 }
 

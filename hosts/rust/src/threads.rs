@@ -1,6 +1,6 @@
 //! A heap that threads share.
 //!
-//! [`SharedHeap`] has the objects, and each thread of the program that calls the heap is in it by a [`Mutator`] of its own, with sixteen
+//! [`SharedHeap`] has the objects, and each thread of the program that calls the heap is in it by a [`Mutator`] of its own, with 16 to 256
 //! registers. Register 0 holds the world for good, which is the same object for all: what threads share they find from there. Operations
 //! that meet at one field are atomic and in one order for all threads. No operation waits for another thread, but where a pause is wanted.
 //!
@@ -40,7 +40,7 @@ use std::time::Duration;
 
 use crate::error::{done, Error};
 use crate::operation::{name_operations, Stopped};
-use crate::register::{numbers, Register};
+use crate::register::{self, numbers, Register};
 use crate::settings::Pace;
 use kogyulen_sys as raw;
 
@@ -79,6 +79,8 @@ pub struct Settings {
     pub pace: Pace,
     /// Blocks that a trace evacuates at most, 0 to an eighth of all: the pause that ends it is the longer for them.
     pub evacuate: u32,
+    /// Registers of each mutator, 16 to 256. What a pause takes grows with those in use alone.
+    pub registers: u32,
 }
 
 impl Settings {
@@ -96,6 +98,7 @@ impl Settings {
             within: 4,
             pace: Pace::Room,
             evacuate,
+            registers: raw::LXR_REGISTERS,
         }
     }
 
@@ -147,13 +150,19 @@ impl Settings {
         self
     }
 
+    /// So many registers of each mutator.
+    pub const fn registers(mut self, registers: u32) -> Settings {
+        self.registers = registers;
+        self
+    }
+
     fn raw(&self, watch: Option<&Watch>) -> raw::SharedSettings {
-        let &Settings { blocks, mutators, helpers, log, remember, every, trace, within, pace, evacuate } = self;
-        let (pace, unused) = (pace.bytes(), 0);
+        let &Settings { blocks, mutators, helpers, log, remember, every, trace, within, pace, evacuate, registers } = self;
+        let pace = pace.bytes();
         let size = size_of::<raw::SharedSettings>() as u64;
         let with = watch.map_or(ptr::null_mut(), |watch| (watch as *const Watch).cast_mut().cast());
         let paused = watch.map(|_| tell_of_pause as extern "C" fn(*mut c_void, *const raw::PauseTimes));
-        raw::SharedSettings { size, blocks, mutators, helpers, log, remember, every, trace, within, paused, with, pace, evacuate, unused }
+        raw::SharedSettings { size, blocks, mutators, helpers, log, remember, every, trace, within, paused, with, pace, evacuate, registers }
     }
 }
 
@@ -247,6 +256,7 @@ extern "C" fn tell_of_pause(with: *mut c_void, times: *const raw::PauseTimes) {
 /// ```
 pub struct SharedHeap {
     handle: NonNull<raw::SharedHeap>,
+    registers: u32,
     watch: Option<Box<Watch>>,
 }
 
@@ -276,7 +286,8 @@ impl SharedHeap {
         let mut handle = ptr::null_mut();
         // SAFETY: the handle is null, the settings outlive the call, and the watch outlives the heap.
         done(unsafe { raw::lxr_shared_heap_open(&mut handle, &settings.raw(watch.as_deref())) })?;
-        NonNull::new(handle).map(|handle| SharedHeap { handle, watch }).ok_or(Error::Memory)
+        let registers = if settings.registers == 0 { raw::LXR_REGISTERS } else { settings.registers };
+        NonNull::new(handle).map(|handle| SharedHeap { handle, registers, watch }).ok_or(Error::Memory)
     }
 
     /// Enters the heap: a mutator whose registers are nil, but for [`R0`](crate::R0), which holds the world. Where a pause is wanted, this
@@ -288,7 +299,8 @@ impl SharedHeap {
         let mut handle = ptr::null_mut();
         // SAFETY: the heap is open, and the mutator's handle is null.
         done(unsafe { raw::lxr_mutator_enter(self.handle.as_ptr(), &mut handle) })?;
-        NonNull::new(handle).map(|handle| Mutator { handle, heap: PhantomData }).ok_or(Error::Memory)
+        let registers = self.registers;
+        NonNull::new(handle).map(|handle| Mutator { handle, registers, heap: PhantomData }).ok_or(Error::Memory)
     }
 
     /// How many there are of what is counted.
@@ -326,13 +338,14 @@ impl fmt::Debug for SharedHeap {
     }
 }
 
-/// A thread's right to call a heap, and its sixteen registers there. It may go to another thread, and is in one at a time. It leaves the heap
-/// as it is dropped, and lets go of what its registers hold.
+/// A thread's right to call a heap, and its registers there. It may go to another thread, and is in one at a time. It leaves the heap as it is
+/// dropped, and lets go of what its registers hold.
 ///
 /// While it is in the heap, pauses wait until it makes an operation, polls, rests or leaves. So whatever blocks, or is long, goes into
 /// [`Mutator::rest`].
 ///
-/// Besides those that are named, each operation answers [`Error::UsedUp`] and [`Error::Lost`].
+/// Besides those that are named, each operation answers [`Error::UsedUp`] and [`Error::Lost`], and [`Error::Register`] for a register beyond
+/// those that the heap's settings give each mutator.
 ///
 /// ```compile_fail
 /// fn is_sync<T: Sync>() {}
@@ -340,6 +353,7 @@ impl fmt::Debug for SharedHeap {
 /// ```
 pub struct Mutator<'h> {
     handle: NonNull<raw::Mutator>,
+    registers: u32,
     heap: PhantomData<&'h SharedHeap>,
 }
 
@@ -433,6 +447,20 @@ impl Mutator<'_> {
     /// [`Error::Register`] for [`R0`](crate::R0).
     pub fn clear(&mut self, dest: Register) -> Result<(), Error> {
         done(unsafe { raw::lxr_mutator_nil(self.raw(), dest.number()) })
+    }
+
+    /// Its registers, in order.
+    pub fn registers(&self) -> impl DoubleEndedIterator<Item = Register> + ExactSizeIterator {
+        register::first(self.registers)
+    }
+
+    /// The first so many registers stay in use, and all others become nil, one after another. What a pause takes grows with the registers in
+    /// use, up to the last that holds an object or did at the last pause.
+    ///
+    /// # Errors
+    /// [`Error::Register`] where `count` is 0, since [`R0`](crate::R0) keeps the world, or more than there are.
+    pub fn registers_in_use(&mut self, count: u32) -> Result<(), Error> {
+        done(unsafe { raw::lxr_mutator_registers_in_use(self.raw(), count) })
     }
 
     /// The register holds a new object: its references are what these registers hold, and its data words are these. No other thread finds it

@@ -54,6 +54,54 @@ fn what_a_register_leads_to_is_kept_and_all_else_reclaimed() -> Result<(), Error
 }
 
 #[test]
+fn a_heap_has_as_many_registers_as_its_settings_say() -> Result<(), Error> {
+    for (said, many) in [(0, 16), (16, 16), (17, 17), (64, 64), (255, 255), (256, 256)] {
+        let mut heap = Heap::open(&Settings::new(4).registers(said))?;
+        assert_eq!(heap.registers().map(Register::number).collect::<Vec<_>>(), (0..many).collect::<Vec<_>>());
+        for register in heap.registers().skip(1) {
+            heap.make_with(register, &[], &[u64::from(register.number())])?;
+        }
+        heap.collect();
+        assert!(heap.registers().skip(1).all(|register| heap.get(register, 0) == Ok(u64::from(register.number()))));
+        if let Some(behind) = Register::new(many) {
+            assert_eq!((heap.make(behind, 0, 0), heap.get(behind, 0)), (Err(Error::Register), Err(Error::Register)));
+            assert_eq!(heap.store_many(R1, 0, &[behind]), Err(Error::Register));
+            assert_eq!(heap.apply(&mut [Operation::clear(behind)]).map_err(Error::from), Err(Error::Register));
+        }
+    }
+    for wrong in [1, 15, 257, u32::MAX] {
+        assert_eq!(Heap::open(&Settings::new(1).registers(wrong)).err(), Some(Error::Size));
+    }
+    Ok(())
+}
+
+#[test]
+fn registers_that_are_no_longer_in_use_are_nil() -> Result<(), Error> {
+    for many in [16, 100, 256] {
+        let mut heap = Heap::open(&Settings::new(4).registers(many))?;
+        for count in [many, many - 1, 20.min(many), 2, 1] {
+            for register in heap.registers().skip(1) {
+                heap.make(register, 0, 1)?;
+            }
+            heap.registers_in_use(count)?;
+            assert!(heap.registers().skip(1).all(|register| heap.is_nil(register) == (register.number() >= count)));
+            heap.collect();
+            assert_eq!(heap.count(Count::Live), u64::from(count - 1));
+        }
+        assert_eq!(heap.registers_in_use(0), Err(Error::Register));
+        assert_eq!(heap.registers_in_use(many + 1), Err(Error::Register));
+    }
+    Ok(())
+}
+
+#[test]
+#[should_panic(expected = "register")]
+fn a_register_that_a_heap_has_not_is_a_panic_where_there_is_no_error() {
+    let heap = Heap::open(&Settings::new(1)).unwrap();
+    heap.is_nil(Register::new(16).unwrap());
+}
+
+#[test]
 fn a_heap_goes_to_another_thread_and_back() -> Result<(), Error> {
     let mut heap = Heap::open(&Settings::new(2))?;
     make_list(&mut heap, 100)?;

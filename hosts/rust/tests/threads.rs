@@ -4,7 +4,7 @@ use std::sync::{Arc, Mutex};
 use std::thread;
 
 use kogyulen::threads::{Count, Kind, Mutator, Operation, Settings, SharedHeap};
-use kogyulen::{Error, Pace, R0, R1, R15, R2, R3, R4};
+use kogyulen::{Error, Pace, Register, R0, R1, R15, R2, R3, R4};
 
 const HOSTS: u32 = 4;
 const ROUNDS: u64 = 20_000;
@@ -154,6 +154,39 @@ fn plain_pauses_come_by_the_pace() -> Result<(), Error> {
             own.make(R1, 1, 1)?; // 32 bytes
         }
         assert_eq!((heap.count(Count::Pauses), heap.count(Count::Collecting)), (pauses, 0));
+    }
+    Ok(())
+}
+
+#[test]
+fn mutators_have_as_many_registers_as_the_settings_say() -> Result<(), Error> {
+    assert_eq!(Settings::new(8, 2).registers, 16);
+    for many in [16, 17, 64, 256] {
+        let heap = SharedHeap::open(&Settings::new(8, 2).registers(many))?;
+        let mut mutator = heap.enter()?;
+        assert_eq!(mutator.registers().map(Register::number).collect::<Vec<_>>(), (0..many).collect::<Vec<_>>());
+        for register in mutator.registers().skip(1) {
+            mutator.make_with(register, &[], &[u64::from(register.number())])?;
+        }
+        mutator.collect()?;
+        for register in mutator.registers().skip(1) {
+            assert_eq!(mutator.get(register, 0), Ok(u64::from(register.number())));
+        }
+        if let Some(behind) = Register::new(many) {
+            assert_eq!((mutator.make(behind, 0, 0), mutator.get(behind, 0)), (Err(Error::Register), Err(Error::Register)));
+            assert_eq!(mutator.apply(&mut [Operation::clear(behind)]).map_err(Error::from), Err(Error::Register));
+        }
+        for count in [many, many - 1, 12, 1] {
+            mutator.registers_in_use(count)?;
+            for register in mutator.registers().skip(1) {
+                assert_eq!(mutator.get(register, 0).is_ok(), register.number() < count);
+            }
+        }
+        assert_eq!(mutator.registers_in_use(0), Err(Error::Register));
+        assert_eq!(mutator.registers_in_use(many + 1), Err(Error::Register));
+    }
+    for wrong in [1, 15, 257, u32::MAX] {
+        assert_eq!(SharedHeap::open(&Settings::new(8, 2).registers(wrong)).err(), Some(Error::Size));
     }
     Ok(())
 }

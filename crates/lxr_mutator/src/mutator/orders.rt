@@ -5,18 +5,21 @@ ghost use Rattle.lxr_mutator.specs.Orders.{has_room_for_order, is_operation, is_
 
 use super::Mutator;
 use crate::phases::MutatorPhase;
-use lxr_graph::{Op, is_well_formed};
+use lxr_graph::{Op, is_formed_for};
 
 impl Mutator {
     /// Whether it takes the operation: it is between two operations and may do a further one in this epoch, all that it has is done, the
-    /// operation is one as those of a script, and there is room for it and its reply.
+    /// operation is one that it may be asked for, and there is room for it and its reply.
     #[inline(always)]
     #[tactic(auto, using(crate::proofs::OrderLemmas::takes_order_decides))]
     pub(super) fn takes_order(&self, op: Op) -> bool
         ensures test { result ≡ takes_order self.now op }
         ensures may { IsTrue result ↔ MayTakeOrder self.now op }
     {
-        self.is_ready() && !self.is_open() && is_operation(op) && self.has_room_for_order()
+        self.is_ready()
+            && !self.is_open()
+            && is_operation(self.width, op)
+            && self.has_room_for_order()
     }
 
     /// Puts an operation behind those that it has done.
@@ -45,13 +48,13 @@ impl Mutator {
     }
 }
 
-/// Whether an operation is one as those of a script: well formed, and no end.
+/// Whether a thread with so many registers may be asked for an operation: it names these alone, its shape fits, and it is no end.
 #[inline(always)]
-fn is_operation(op: Op) -> bool
-    ensures { result ≡ is_operation op }
+fn is_operation(width: u16, op: Op) -> bool
+    ensures { result ≡ is_operation width op }
 {
     match op {
         Op::End => false,
-        _ => is_well_formed(op),
+        _ => is_formed_for(width, op),
     }
 }

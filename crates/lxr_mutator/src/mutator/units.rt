@@ -1,8 +1,9 @@
 //! Units: how an operation begins and ends, and the steps between.
-ghost use Rattle.std.specs.Prelude.{◌≡◌, ◌≢◌, ◌<◌, false, length};
-ghost use Rattle.lxr_graph.specs.Step.{IsWellFormed};
+ghost use Rattle.std.specs.Prelude.{◌≡◌, ◌≢◌, ◌<◌, false, length, replicate};
+ghost use Rattle.lxr_layout.specs.declared.TheConstants.{REGISTERS};
+ghost use Rattle.lxr_graph.specs.Step.{IsFormedFor};
 ghost use Rattle.lxr_mutator.specs.Operating.{asked_reply};
-ghost use Rattle.lxr_mutator.specs.Mutating.{op_now, wipes_in};
+ghost use Rattle.lxr_mutator.specs.Mutating.{nil, op_now, wipes_in};
 ghost use Rattle.lxr_mutator.specs.Steps.{after_in, based, done_with, end_by, ended, finished, next_in, started};
 ghost use Rattle.lxr_mutator.specs.Mutators.{IsBusy, IsHeld, MayBeIn};
 
@@ -61,12 +62,21 @@ impl Mutator {
         self.end = Some(how);
     }
 
+    /// Its registers hold nothing from now on.
+    fn clear_registers(&mut self)
+        ensures { self.new ≡ record self.old { registers = replicate REGISTERS nil } }
+    {
+        let count = usize::from(self.in_use);
+        self.registers[0..count].fill(Place::NIL);
+        self.in_use = 0;
+    }
+
     /// The thread's end is done.
     fn end_thread(&mut self)
         requires turn { self.old.phase ≢ MutatorPhase.Finished }
         ensures { self.new ≡ ended self.old }
     {
-        self.registers = [Place::NIL; 16];
+        self.clear_registers();
         self.agenda.answer(Reply::Ended);
         self.tally.count(Reply::Ended);
         self.phase = MutatorPhase::Finished;
@@ -141,7 +151,7 @@ impl Mutator {
     fn begin(&mut self, op: Op)
         requires phase { self.old.phase ≡ MutatorPhase.Ready }
         requires op { op ≡ op_now self.old }
-        requires formed { IsWellFormed op }
+        requires formed { IsFormedFor self.old.width op }
         ensures { self.new ≡ started self.old op }
     {
         match op {

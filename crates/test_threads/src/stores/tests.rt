@@ -14,6 +14,7 @@ const LIMITS: Limits = Limits {
     threads: 16,
     log: 1,
     remember: 1,
+    registers: 16,
     evacuate: 0,
 };
 

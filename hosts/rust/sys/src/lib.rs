@@ -39,6 +39,7 @@ pub const LXR_VERSION_PATCH: u32 = 0;
 pub const LXR_VERSION: u32 = LXR_VERSION_MAJOR << 16 | LXR_VERSION_MINOR << 8 | LXR_VERSION_PATCH;
 
 pub const LXR_REGISTERS: u32 = 16;
+pub const LXR_MOST_REGISTERS: u32 = 256;
 pub const LXR_WORLD_REFS: u32 = 64;
 pub const LXR_MOST_REFS: u32 = 1023;
 pub const LXR_MOST_WORDS: u32 = 1023;
@@ -92,6 +93,8 @@ pub struct Settings {
     pub blocks: u32,
     pub body_blocks: u32,
     pub pace: u64,
+    pub registers: u32,
+    pub unused: u32,
 }
 
 /// What `lxr_operation` is.
@@ -119,6 +122,7 @@ extern "C" {
     pub fn lxr_move(heap: *mut Handle, dest: u32, source: u32) -> Code;
     pub fn lxr_nil(heap: *mut Handle, dest: u32) -> Code;
     pub fn lxr_is_nil(heap: *const Handle, source: u32, is_nil: *mut u32) -> Code;
+    pub fn lxr_registers_in_use(heap: *mut Handle, count: u32) -> Code;
     pub fn lxr_shape(heap: *const Handle, base: u32, refs: *mut u32, words: *mut u32, blocks: *mut u32) -> Code;
     pub fn lxr_new_with(heap: *mut Handle, dest: u32, sources: *const u32, refs: usize, data: *const u64, words: usize) -> Code;
     pub fn lxr_get_many(heap: *const Handle, base: u32, first: u32, words: *mut u64, count: usize) -> Code;
@@ -182,7 +186,7 @@ pub struct SharedSettings {
     pub with: *mut c_void,
     pub pace: u64,
     pub evacuate: u32,
-    pub unused: u32,
+    pub registers: u32,
 }
 
 /// What `lxr_pause_times` is.
@@ -213,6 +217,7 @@ extern "C" {
     pub fn lxr_mutator_same(mutator: *mut Mutator, left: u32, right: u32, same: *mut u32) -> Code;
     pub fn lxr_mutator_move(mutator: *mut Mutator, dest: u32, source: u32) -> Code;
     pub fn lxr_mutator_nil(mutator: *mut Mutator, dest: u32) -> Code;
+    pub fn lxr_mutator_registers_in_use(mutator: *mut Mutator, count: u32) -> Code;
     pub fn lxr_mutator_new_with(mutator: *mut Mutator, dest: u32, sources: *const u32, refs: usize, data: *const u64, words: usize)
         -> Code;
     pub fn lxr_mutator_get_many(mutator: *mut Mutator, base: u32, first: u32, words: *mut u64, count: usize) -> Code;
@@ -261,7 +266,7 @@ pub struct PassesSettings {
     pub trace: u32,
     pub within: u32,
     pub evacuate: u32,
-    pub unused: u32,
+    pub registers: u32,
 }
 
 extern "C" {

@@ -1,13 +1,13 @@
-use Rattle.std.proofs.Common.{◌∙◌, ap, subst}
-use Rattle.lxr_c_base.specs.declared.codes.Code.TheVariants as code
-use Rattle.lxr_c_shared.specs.Holding.{At}
-use Rattle.lxr_c_shared.specs.Passing.{Operates, only}
+use Rattle.std.proofs.Common.{◌∙◌, ap}
+use Rattle.lxr_c_base.specs.Requests as asking
 use Rattle.lxr_c_base.specs.Requests.{small_of}
+use Rattle.lxr_c.proofs.AskingLemmas.{asked_by}
 use Rattle.lxr_c.proofs.passes.lxr_station_put.Goals as goal
 
 pub returns : goal.returns
 returns c = (
   c.operate.result,
-  subst (λ q. At (only code.NoHeap) (Operates q) c.args.station.now.held.value c.operate.new.self.held.value c.operate.result) (c.small_of-request.ensures ∙ ap small_of c.put.ensures.asked) c.operate.ensures,
+  asked_by (λ n. small_of (asking.put n c.args.base c.args.index c.args.word)) c.args.station.now.held.value c.registers-registers.new.self.held.value c.operate.new.self.held.value c.registers-registers.result c.small_of-request.result c.operate.result
+      c.registers-registers.ensures.count c.registers-registers.ensures.kept (c.small_of-request.ensures ∙ ap small_of c.put.ensures.asked) c.operate.ensures,
   c.number.ensures,
 )

@@ -3,6 +3,7 @@ use Rattle.lxr_large_model.specs.History.{LargeItem, Called}
 use Rattle.lxr_c_base.specs.declared.codes.Code.TheVariants as code
 use Rattle.std.specs.Prelude.{Some}
 use Rattle.lxr_c_many.specs.Applying.{Performs}
+use Rattle.lxr_c_heap.proofs.RegisterLemmas.{known, made_keeps, replied_keeps, stored_keeps}
 use Rattle.lxr_c_many.proofs.applying.perform.Goals as goal
 
 pub returns-in-Make-clause-performs : goal.returns-in-Make-clause-performs
@@ -32,3 +33,12 @@ returns-in-IsNil-clause-performs c = λ h is. (
   subst (λ a. Performs c.args.heap.now h a c.args.heap.now h (record { code = code.Done; word = Some c.flag.result })) (sym c.in-IsNil.is)
       (c.is_nil.result, c.is_nil.ensures h is.heap, refl, refl, ap (λ n. record { code = code.Done; word = Some n }) c.flag.ensures),
 )
+
+pub returns-in-Make-clause-registers : goal.returns-in-Make-clause-registers
+returns-in-Make-clause-registers c = known c.args.heap.now _ _ c.requires.serving.holds (λ h is. made_keeps c.args.heap.now c.make.new.self h c.in-Make.op c.make.result (c.make.ensures.makes h is))
+
+pub returns-in-Store-clause-registers : goal.returns-in-Store-clause-registers
+returns-in-Store-clause-registers c = known c.args.heap.now _ _ c.requires.serving.holds (λ h is. stored_keeps c.args.heap.now c.store.new.self h c.in-Store.op c.store.result (c.store.ensures.stores h is))
+
+pub returns-in-Reply-clause-registers : goal.returns-in-Reply-clause-registers
+returns-in-Reply-clause-registers c = known c.args.heap.now _ _ c.requires.serving.holds (λ h is. replied_keeps c.args.heap.now c.reply.new.self h c.in-Reply.op c.reply.result (c.reply.ensures.replies h is.heap))

@@ -1,6 +1,7 @@
 use Rattle.std.proofs.Common.{◌+◌, ◌<◌, ◌∙◌, ap, refl, sym, subst, arith, [], ◌∷◌, ◌++◌, length, get_or, set}
 use Rattle.std.proofs.lemmas.List.{length_push}
 use Rattle.lxr_c_base.specs.declared.codes.Code.TheVariants as code
+use Rattle.lxr_c_heap.specs.Hosting.{registers_in}
 use Rattle.lxr_c_many.specs.declared.asked.Operation.{Operation}
 use Rattle.lxr_c_many.specs.Applying.{Applies, Asks, PerformsEntry, all_told, with_told}
 use Rattle.lxr_c_many.proofs.ApplyLemmas.{asks_at, ends, entry_host, goes_more, goes_none, none_told, stops, told_long, told_next, untold_at}
@@ -12,6 +13,7 @@ zero_entry = record { op = 0; a = 0; b = 0; c = 0; word = 0 }
 pub loop-i-init : goal.loop-i-init
 loop-i-init c = record {
   serving = c.requires.serving;
+  registers = refl;
   told = [];
   entries = sym (none_told c.args.entries.now);
   long = refl;
@@ -23,8 +25,9 @@ perform_at-requires-clause-asks c =
     let inv = c.loop-i.invariant in
     let same = ap length inv.entries ∙ told_long c.args.entries.now inv.told in
     let few = inv.long in
-    subst Asks (sym (ap (λ zs. get_or zs c.loop-i.i zero_entry) inv.entries ∙ untold_at c.args.entries.now inv.told c.loop-i.i zero_entry (omega (arith, few))))
-    (asks_at c.args.entries.now c.loop-i.i zero_entry c.requires.ask (omega (arith, same)))
+    subst (λ n. Asks n (get_or c.loop-i.entries c.loop-i.i zero_entry)) (sym inv.registers)
+    (subst (Asks (registers_in c.args.heap.now)) (sym (ap (λ zs. get_or zs c.loop-i.i zero_entry) inv.entries ∙ untold_at c.args.entries.now inv.told c.loop-i.i zero_entry (omega (arith, few))))
+    (asks_at (registers_in c.args.heap.now) c.args.entries.now c.loop-i.i zero_entry c.requires.ask (omega (arith, same))))
 
 pub loop-i-preserved : goal.loop-i-preserved
 loop-i-preserved c =
@@ -38,6 +41,7 @@ loop-i-preserved c =
     let (t, told, new, performs) = c.perform_at.ensures.performs in
     record {
       serving = c.perform_at.ensures.serving;
+      registers = c.perform_at.ensures.registers ∙ inv.registers;
       told = inv.told ++ t ∷ [];
       entries = ap (λ zs. set zs i c.perform_at.new.entry) inv.entries ∙ ap (λ e. set (all_told es inv.told) i e) (new ∙ ap (λ e. with_told e t) old) ∙ told_next es inv.told i zero_entry t few within;
       long = length_push inv.told t ∙ ap (λ n. n + 1) few;

@@ -11,8 +11,8 @@ returns-in-None-clause-found c = λ h is. none_told (large_state h) (register_at
 
 pub returns-in-Some-clause-found : goal.returns-in-Some-clause-found
 returns-in-Some-clause-found c = λ h is.
-    c.reply_of.ensures ∙ ap (λ b. if b then body_reply.Done else body_reply.Range) c.has_all.ensures.all
+    c.of.ensures ∙ ap (λ b. if b then body_reply.Done else body_reply.Range) c.has_all.ensures.all
     ∙ words_told (large_state h) (register_at (large_state h).small 1 c.args.base) c.in-Some.shape c.in-Some.field-0-1 c.args.first c.args.count (c.in-Some.ensures h is)
 
 pub returns-in-Some-clause-few : goal.returns-in-Some-clause-few
-returns-in-Some-clause-few c = λ done. found_few c.has_all.result c.reply_of.result _ c.reply_of.ensures c.has_all.ensures.few done
+returns-in-Some-clause-few c = λ done. found_few c.has_all.result c.of.result _ c.of.ensures c.has_all.ensures.few done

@@ -21,7 +21,7 @@ use Rattle.lxr_c_many.proofs.log.log_is_short.Goals as goal
 pub at-place-requires : goal.at-place-requires
 at-place-requires c =
     subst (λ (s : Space). c.from.result < length s.registers.items) (sym c.space-space.ensures)
-    (subst (λ i. i < length c.args.heap.now.space.registers.items) (sym c.from.ensures) (∥∥₁_elim c.requires.there le_prop (λ of. registers_many c.args.heap.now of.0 of.1 c.args.base c.requires.base)))
+    (subst (λ i. i < length c.args.heap.now.space.registers.items) (sym c.from.ensures) (∥∥₁_elim c.requires.there le_prop (λ of. registers_many c.args.heap.now of.0 of.1 c.args.base c.ranges.base.fits)))
 
 pub count_to_record-requires-clause-space : goal.count_to_record-requires-clause-space
 count_to_record-requires-clause-space c =

@@ -1,9 +1,10 @@
-use Rattle.std.proofs.Common.{◌+◌, false, refl, inl, inr, arith}
+use Rattle.std.proofs.Common.{◌+◌, ◌∙◌, false, refl, inl, inr, arith}
 use Rattle.std.proofs.lemmas.Bool.{iff_false}
 use mathlib.Core.Logic.{∥∥₁_elim, ∥∥₁_prop}
 use Rattle.lxr_c_heap.specs.declared.host.TheConstants.{ENDS}
-use Rattle.lxr_c_heap.specs.Hosting.{behind_pause}
+use Rattle.lxr_c_heap.specs.Hosting.{behind_pause, registers_in}
 use Rattle.lxr_c_heap.proofs.PacingLemmas.{paused_host}
+use Rattle.lxr_c_heap.proofs.RegisterLemmas.{known, paused_keeps, settled_keeps}
 use Rattle.lxr_c_heap.proofs.RoomLemmas.{paused_room, settled_holds, weaker_room}
 use Rattle.lxr_c_many.proofs.LogLemmas.{long_may, paused_may, references_few, settled_references}
 use Rattle.lxr_c_many.proofs.log.pause_for_stores.Goals as goal
@@ -32,6 +33,13 @@ returns-then-not-log_is_short-clause-pauses c = λ h is.
       ready = long_may k c.args.base c.args.first c.args.count long has;
     }
 
+pub returns-then-not-log_is_short-clause-registers : goal.returns-then-not-log_is_short-clause-registers
+returns-then-not-log_is_short-clause-registers c =
+    let x = c.args.heap.now in
+    known x (registers_in c.settle.new.self) (registers_in x) c.requires.serving.holds (λ h is.
+    let (k, settled) = c.settle.ensures.settled h is.heap in
+    settled_keeps ENDS x c.settle.new.self h k settled)
+
 pub returns-then-not-log_is_short-clause-serving : goal.returns-then-not-log_is_short-clause-serving
 returns-then-not-log_is_short-clause-serving c = weaker_room 2 3 c.settle.new.self c.settle.ensures.room (omega arith) (omega arith)
 
@@ -51,8 +59,15 @@ returns-clause-pauses c = λ h is.
       history = behind_pause c.pause.new.self k;
       pauses = inl ((c.log_is_short.ensures k holds.heap has).0 c.if-not-log_is_short.false, paused, refl);
       holds = paused_host c.settle.new.self c.pause.new.self k false paused;
-      ready = paused_may c.pause.new.self k c.args.base c.args.first c.args.count (references_few c.settle.new.self.heap k holds.heap c.args.base (c.args.first + c.args.count) c.requires.base has) has;
+      ready = paused_may c.pause.new.self k c.args.base c.args.first c.args.count (references_few c.settle.new.self.heap k holds.heap c.args.base (c.args.first + c.args.count) c.ranges.base.fits has) has;
     }
+
+pub returns-clause-registers : goal.returns-clause-registers
+returns-clause-registers c =
+    let x = c.args.heap.now in
+    known x (registers_in c.pause.new.self) (registers_in x) c.requires.serving.holds (λ h is.
+    let (k, settled) = c.settle.ensures.settled h is.heap in
+    paused_keeps c.settle.new.self c.pause.new.self k false (c.pause.ensures k (settled_holds ENDS x c.settle.new.self h k is settled).heap) ∙ settled_keeps ENDS x c.settle.new.self h k settled)
 
 pub returns-clause-serving : goal.returns-clause-serving
 returns-clause-serving c = weaker_room 2 2 c.pause.new.self (paused_room 2 2 c.settle.new.self c.pause.new.self false c.settle.ensures.room c.pause.ensures) (omega arith) (omega arith)

@@ -1,6 +1,8 @@
-use Rattle.std.proofs.Common.{arith, refl, subst, length, ◌<◌, ◌++◌, take}
+use Rattle.std.proofs.Common.{◌∙◌, arith, refl, subst, length, ◌<◌, ◌++◌, take}
 use Rattle.std.proofs.lemmas.List.{take_all}
 use Rattle.lxr_large_model.specs.History.{large_state}
+use Rattle.lxr_c_heap.specs.Hosting.{registers_in}
+use Rattle.lxr_c_heap.proofs.RegisterLemmas.{few_registers}
 use Rattle.lxr_c_many.specs.Fields.{load_of}
 use Rattle.lxr_c_many.specs.Following.{Follows, newest_first}
 use Rattle.lxr_c_many.proofs.FollowLemmas.{follows_holds}
@@ -8,10 +10,20 @@ use Rattle.lxr_c_many.proofs.LoadLemmas.{loaded_more, loaded_none, next_referenc
 use Rattle.lxr_c_many.proofs.references.load_all.Goals as goal
 
 pub loop-i-init : goal.loop-i-init
-loop-i-init c = record { serving = c.requires.serving; loaded = λ h is has. loaded_none c.args.heap.now h c.args.base c.args.first c.args.targets.now }
+loop-i-init c = record { serving = c.requires.serving; registers = refl; loaded = λ h is has. loaded_none c.args.heap.now h c.args.base c.args.first c.args.targets.now }
+
+pub overflow_cast-target : goal.overflow_cast-target
+overflow_cast-target c =
+    let target = register_small (registers_in c.args.heap.now) c.args.targets.now c.loop-i.i c.requires.targets (omega arith) in
+    let few = few_registers c.args.heap.now c.requires.serving.holds in
+    omega (arith, target, few)
 
 pub load_at-requires-clause-registers : goal.load_at-requires-clause-registers
-load_at-requires-clause-registers c = (register_small c.args.targets.now c.loop-i.i c.requires.targets (omega arith), c.requires.base)
+load_at-requires-clause-registers c =
+    let same = c.loop-i.invariant.registers in
+    let target = register_small (registers_in c.args.heap.now) c.args.targets.now c.loop-i.i c.requires.targets (omega arith) in
+    let base = c.requires.base in
+    (omega (arith, same, target), omega (arith, same, base))
 
 pub loop-i-preserved : goal.loop-i-preserved
 loop-i-preserved c =
@@ -19,6 +31,7 @@ loop-i-preserved c =
     let within : c.loop-i.i < length c.args.targets.now = omega arith in
     record {
       serving = c.load_at.ensures.serving;
+      registers = c.load_at.ensures.registers ∙ c.loop-i.invariant.registers;
       loaded = λ h is has.
           let before = c.loop-i.invariant.loaded h is has in
           let new = newest_first (load_of (large_state h) c.args.base) c.args.first (take c.loop-i.i c.args.targets.now) in

@@ -1,6 +1,8 @@
-use Rattle.std.proofs.Common.{arith, refl, subst, length, ◌<◌, ◌++◌, take}
+use Rattle.std.proofs.Common.{◌∙◌, arith, refl, subst, length, ◌<◌, ◌++◌, take}
 use mathlib.Core.Logic.{∥∥₁_elim, ∥∥₁_prop}
 use Rattle.std.proofs.lemmas.List.{take_all}
+use Rattle.lxr_c_heap.specs.Hosting.{registers_in}
+use Rattle.lxr_c_heap.proofs.RegisterLemmas.{few_registers}
 use Rattle.lxr_c_many.specs.Fields.{store_of}
 use Rattle.lxr_c_many.specs.Following.{Follows, newest_first}
 use Rattle.lxr_c_many.proofs.FollowLemmas.{follows_holds}
@@ -9,10 +11,20 @@ use Rattle.lxr_c_many.proofs.StoringLemmas.{next_stored, next_wants_none, stored
 use Rattle.lxr_c_many.proofs.references.store_all.Goals as goal
 
 pub loop-i-init : goal.loop-i-init
-loop-i-init c = record { serving = c.requires.serving; stored = λ h is may. stored_none c.args.heap.now h c.args.base c.args.first c.args.sources.now may }
+loop-i-init c = record { serving = c.requires.serving; registers = refl; stored = λ h is may. stored_none c.args.heap.now h c.args.base c.args.first c.args.sources.now may }
+
+pub overflow_cast-source : goal.overflow_cast-source
+overflow_cast-source c =
+    let source = register_small (registers_in c.args.heap.now) c.args.sources.now c.loop-i.i c.requires.sources (omega arith) in
+    let few = few_registers c.args.heap.now c.requires.serving.holds in
+    omega (arith, source, few)
 
 pub store_at-requires-clause-registers : goal.store_at-requires-clause-registers
-store_at-requires-clause-registers c = (c.requires.base, register_small c.args.sources.now c.loop-i.i c.requires.sources (omega arith))
+store_at-requires-clause-registers c =
+    let same = c.loop-i.invariant.registers in
+    let source = register_small (registers_in c.args.heap.now) c.args.sources.now c.loop-i.i c.requires.sources (omega arith) in
+    let base = c.requires.base in
+    (omega (arith, same, base), omega (arith, same, source))
 
 pub store_at-requires-clause-ready : goal.store_at-requires-clause-ready
 store_at-requires-clause-ready c =
@@ -32,6 +44,7 @@ loop-i-preserved c =
     let within : c.loop-i.i < length c.args.sources.now = omega arith in
     record {
       serving = c.store_at.ensures.serving;
+      registers = c.store_at.ensures.registers ∙ c.loop-i.invariant.registers;
       stored = λ h is may.
           let before = c.loop-i.invariant.stored h is may in
           let new = newest_first (store_of c.args.base) c.args.first (take c.loop-i.i c.args.sources.now) in

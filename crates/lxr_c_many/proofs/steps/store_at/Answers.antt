@@ -1,8 +1,10 @@
-use Rattle.std.proofs.Common.{inl, inr, subst}
+use Rattle.std.proofs.Common.{ap, inl, inr, subst}
 use mathlib.Core.Logic.{∥∥₁_elim}
 use Rattle.lxr_graph.specs.declared.Op.TheVariants as op
 use Rattle.lxr_large_model.specs.declared.LargeOp.TheVariants as large_op
+use Rattle.lxr_large_model.specs.Full.{LargeTerms}
 use Rattle.lxr_heap.specs.Acting.{Acts as HeapActs}
+use Rattle.lxr_c_heap.proofs.RegisterLemmas.{known}
 use Rattle.lxr_c_many.proofs.StepLemmas.{store_done, stored_serves}
 use Rattle.lxr_c_many.proofs.steps.store_at.Goals as goal
 
@@ -18,6 +20,10 @@ pub returns-clause-stored : goal.returns-clause-stored
 returns-clause-stored c = λ h is has.
     store_done c.args.heap.now c.act.new.self h c.args.base c.args.index c.args.source c.in-Replied.field-0 has
     (subst (HeapActs c.args.heap.now.heap c.act.new.self h (large_op.Small (op.Store c.args.base c.args.index c.args.source))) c.in-Replied.is (c.act.ensures h is))
+
+pub returns-clause-registers : goal.returns-clause-registers
+returns-clause-registers c = known c.args.heap.now _ _ c.requires.serving.holds (λ h is.
+    ap (λ (t : LargeTerms). t.registers) (subst (HeapActs c.args.heap.now.heap c.act.new.self h (large_op.Small (op.Store c.args.base c.args.index c.args.source))) c.in-Replied.is (c.act.ensures h is.heap)).terms)
 
 pub returns-clause-serving : goal.returns-clause-serving
 returns-clause-serving c =

@@ -1,7 +1,9 @@
-use Rattle.std.proofs.Common.{◌∙◌, refl, sym, Some, subst}
+use Rattle.std.proofs.Common.{◌∙◌, ap, arith, refl, sym, Some, subst}
 use Rattle.std.proofs.lemmas.Option.{same_Some}
 use Rattle.lxr_c_base.specs.Requests.{register_of}
+use Rattle.lxr_c_heap.specs.Keeping.{registers_kept}
 use Rattle.lxr_c_heap.specs.Hosting.{IsServing}
+use Rattle.lxr_c_heap.proofs.RegisterLemmas.{still_counted}
 use Rattle.lxr_c_many.specs.Calling.{PutsWords}
 use Rattle.lxr_c_many.proofs.CallLemmas.{does_done}
 use Rattle.lxr_c_many.proofs.words.put_many.Goals as goal
@@ -9,10 +11,19 @@ use Rattle.lxr_c_many.proofs.words.put_many.Goals as goal
 pub write-requires-clause-serving : goal.write-requires-clause-serving
 write-requires-clause-serving c = c.args.handle.now.serving c.lend.result.now c.lend.ensures.heap
 
+pub write-requires-clause-base : goal.write-requires-clause-base
+write-requires-clause-base c =
+    let small = c.in_ok-base.ensures.named in
+    let same = c.registers.ensures.counted ∙ ap registers_kept c.lend.ensures.heap in
+    omega (arith, small, same)
+
+pub invariant_of-handle-clause-counted : goal.invariant_of-handle-clause-counted
+invariant_of-handle-clause-counted c = still_counted c.args.handle.now.block.value c.lend.result.now c.write.new.heap _ c.args.handle.now.counted c.lend.ensures.heap c.write.ensures.registers
+
 pub invariant_of-handle-clause-serving : goal.invariant_of-handle-clause-serving
 invariant_of-handle-clause-serving c = λ x is. subst IsServing (same_Some c.write.new.heap x is) c.write.ensures.serving
 
 pub returns : goal.returns
 returns c =
-    does_done (PutsWords c.args.first c.args.words.now) c.args.handle.now.block.value (Some c.write.new.heap) c.lend.result.now c.write.new.heap (register_of c.args.base) c.in_ok-base.base c.write.result
-    c.lend.ensures.heap refl (sym c.register_of.ensures ∙ c.in_ok-base.was) (λ h is. c.write.ensures.writes h is.heap)
+    does_done (PutsWords c.args.first c.args.words.now) c.args.handle.now.block.value (Some c.write.new.heap) c.lend.result.now c.write.new.heap (register_of (registers_kept c.args.handle.now.block.value) c.args.base) c.in_ok-base.base c.write.result
+    c.lend.ensures.heap refl (sym (ap (λ n. register_of n c.args.base) c.registers.ensures.counted) ∙ sym c.register_of.ensures.asked ∙ c.in_ok-base.was) (λ h is. c.write.ensures.writes h is.heap)

@@ -1,4 +1,4 @@
-use Rattle.std.proofs.Common.{arith, refl, subst, length, ◌<◌, ◌++◌, take}
+use Rattle.std.proofs.Common.{◌∙◌, arith, refl, subst, length, ◌<◌, ◌++◌, take}
 use Rattle.std.proofs.lemmas.List.{take_all}
 use Rattle.lxr_c_many.specs.Fields.{put_of}
 use Rattle.lxr_c_many.specs.Following.{Follows, newest_first}
@@ -7,7 +7,10 @@ use Rattle.lxr_c_many.proofs.WordLemmas.{next_word, wrote_more, wrote_none}
 use Rattle.lxr_c_many.proofs.words.write_all.Goals as goal
 
 pub loop-i-init : goal.loop-i-init
-loop-i-init c = record { serving = c.requires.serving; wrote = λ h is has. wrote_none c.args.heap.now h c.args.base c.args.first c.args.words.now has }
+loop-i-init c = record { serving = c.requires.serving; registers = refl; wrote = λ h is has. wrote_none c.args.heap.now h c.args.base c.args.first c.args.words.now has }
+
+pub put_at-requires-clause-base : goal.put_at-requires-clause-base
+put_at-requires-clause-base c = let same = c.loop-i.invariant.registers in let base = c.requires.base in omega (arith, same, base)
 
 pub loop-i-preserved : goal.loop-i-preserved
 loop-i-preserved c =
@@ -15,6 +18,7 @@ loop-i-preserved c =
     let within : c.loop-i.i < length c.args.words.now = omega arith in
     record {
       serving = c.put_at.ensures.serving;
+      registers = c.put_at.ensures.registers ∙ c.loop-i.invariant.registers;
       wrote = λ h is has.
           let before = c.loop-i.invariant.wrote h is has in
           let new = newest_first (put_of c.args.base) c.args.first (take c.loop-i.i c.args.words.now) in

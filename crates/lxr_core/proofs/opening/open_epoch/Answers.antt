@@ -1,20 +1,26 @@
-use Rattle.std.proofs.Common.{rules, ◌∙◌, ◌<◌, ◌^◌, length, sym, ap, subst}
+use Rattle.std.proofs.Common.{rules, ◌<◌, ◌^◌, length, sym, ap, subst}
 use Rattle.std.specs.List.{All}
 use Rattle.lxr_image_search.specs.declared.Wanted.TheVariants.{ToScan}
 use Rattle.lxr_image_search.specs.Search.{AvoidsFree}
 use Rattle.lxr_mutator.specs.Mutators.{IsHeld}
+use Rattle.lxr_core.specs.Actors.{mutators_in}
 use Rattle.lxr_core.specs.Filling.{MayAllFill}
-use Rattle.lxr_core.specs.Starting.{HaveStarted}
-use Rattle.lxr_core.proofs.OpenedLemmas.{grays_used, held_before, holds_at, may_all_fill, may_all_start, opened_at}
+use Rattle.lxr_core.specs.Starting.{HaveStarted, MayNameAll}
+use Rattle.lxr_core.proofs.OpenedLemmas.{grays_used, held_before, holds_at, may_all_fill, may_all_start, may_name_all, opened_at}
 use Rattle.lxr_core.proofs.opening.open_epoch.Goals as goal
 
 pub start_all-requires-clause-order : goal.start_all-requires-clause-order
 start_all-requires-clause-order c = c.requires.1.fit.helpers.order
 
+pub start_all-requires-clause-width : goal.start_all-requires-clause-width
+start_all-requires-clause-width c =
+    let same = ap (λ s. s.registers.width) c.put_cursor.ensures.rest in
+    subst (λ width. MayNameAll width (mutators_in c.args.actors.now)) (sym same) (may_name_all c.requires.0 c.args.space.now c.args.actors.now c.requires.1)
+
 pub start_all-requires-clause-held : goal.start_all-requires-clause-held
 start_all-requires-clause-held c =
     let same = ap (λ s. s.registers.items) c.put_cursor.ensures.rest in
-    subst (All IsHeld) (sym (c.as_slice.ensures ∙ same)) (held_before c.requires.0 c.args.space.now c.args.actors.now c.requires.1)
+    subst (All IsHeld) (sym same) (held_before c.requires.0 c.args.space.now c.args.actors.now c.requires.1)
 
 pub start_all-requires-clause-rest : goal.start_all-requires-clause-rest
 start_all-requires-clause-rest c = may_all_start c.requires.0 c.args.space.now c.args.actors.now c.requires.1
@@ -25,16 +31,15 @@ fill_pockets-requires-clause-free c = subst (λ t. AvoidsFree t ToScan) (sym c.p
 pub fill_pockets-requires-clause-empty : goal.fill_pockets-requires-clause-empty
 fill_pockets-requires-clause-empty c =
     let rest = c.put_cursor.ensures.rest in
-    let registers = c.as_slice.ensures ∙ ap (λ s. s.registers.items) rest in
+    let registers = ap (λ s. s.registers.items) rest in
     subst (λ l. MayAllFill l c.start_all.new.actors) (sym (ap (λ s. s.limits) rest))
     (may_all_fill c.requires.0 c.args.space.now c.args.actors.now c.start_all.new.actors c.requires.1 (subst (λ places. HaveStarted places c.args.actors.now c.start_all.new.actors (length c.args.actors.now)) registers c.start_all.ensures))
 
 pub returns-clause-opens : goal.returns-clause-opens
 returns-clause-opens c =
-    opened_at c.args.space.now c.put_cursor.new.self c.args.actors.now c.start_all.new.actors c.fill_pockets.new.actors c.fill_pockets.ensures.0 c.put_cursor.ensures
-    (subst (λ places. HaveStarted places c.args.actors.now c.start_all.new.actors (length c.args.actors.now)) c.as_slice.ensures c.start_all.ensures) c.fill_pockets.ensures.1
+    opened_at c.args.space.now c.put_cursor.new.self c.args.actors.now c.start_all.new.actors c.fill_pockets.new.actors c.fill_pockets.ensures.0 c.put_cursor.ensures c.start_all.ensures c.fill_pockets.ensures.1
 
 pub returns-clause-execution : goal.returns-clause-execution
 returns-clause-execution c = λ b begins.
     let few : c.args.space.now.pauses < 2 ^ 32 = search rules in
-    holds_at b c.args.space.now c.put_cursor.new.self c.args.actors.now c.fill_pockets.new.actors few (search rules) begins (returns-clause-opens c)
+    holds_at b c.args.space.now c.put_cursor.new.self c.args.actors.now c.fill_pockets.new.actors few c.unnamed_are_nil.ensures (search rules) begins (returns-clause-opens c)

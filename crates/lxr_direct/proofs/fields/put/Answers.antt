@@ -25,5 +25,5 @@ put_heap-requires-clause-at c =
 pub returns : goal.returns
 returns c = λ g serial may.
     let at = subst (IsBase g c.args.thread c.args.base) c.in-Some.is (c.base_of.ensures.holds g serial may) in
-    put_done c.args.space.now g c.args.thread serial may c.args.base c.in-Some.object at.0 at.1 c.args.index c.args.value c.data_word.result c.put_heap.new.self c.requires.registers c.if-object-index.false
+    put_done c.args.space.now g c.args.thread serial may c.args.base c.in-Some.object at.0 at.1 c.args.index c.args.value c.data_word.result c.put_heap.new.self c.ranges.base.fits c.if-object-index.false
     c.data_word.ensures c.put_heap.ensures

@@ -63,6 +63,6 @@ returns c = λ g serial may.
     let records = subst (Records c.args.space.now mid c.in-Some.object.place c.args.index) c.if-not-record_old.false c.record_old.ensures in
     let turns = subst (λ z. Turns mid c.put_heap.new.self (record (tables_of mid) { heap = changed (tables_of mid).heap z c.held-value.result.0 })) c.field_word.ensures
     (subst (λ z. Turns mid c.put_heap.new.self (record (tables_of mid) { heap = changed (tables_of mid).heap c.field_word.result z })) c.from.ensures c.put_heap.ensures) in
-    let done = store_done c.args.space.now g c.args.thread serial may c.args.base c.in-Some.object at.0 at.1 c.args.index c.args.source c.held-value.result c.requires.registers c.if-object-index.false
+    let done = store_done c.args.space.now g c.args.thread serial may c.args.base c.in-Some.object at.0 at.1 c.args.index c.args.source c.held-value.result (c.ranges.base.fits, c.ranges.source.fits) c.if-object-index.false
     c.held-value.ensures mid c.put_heap.new.self records turns in
     (done.0, (λ no. no), done.1)

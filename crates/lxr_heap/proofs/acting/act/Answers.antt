@@ -4,19 +4,19 @@ use Rattle.lxr_heap.specs.Acting.{Acts, MayBeCalled}
 use Rattle.lxr_heap.proofs.acting.act.Goals as goal
 
 pub act_small-requires-clause-op : goal.act_small-requires-clause-op
-act_small-requires-clause-op c = subst MayBeCalled c.in-Small.is c.requires.op
+act_small-requires-clause-op c = subst (MayBeCalled c.args.heap.now.space.limits.registers) c.in-Small.is c.requires.op
 
 pub make_large-requires-clause-dest : goal.make_large-requires-clause-dest
-make_large-requires-clause-dest c = (subst MayBeCalled c.in-Big.is c.requires.op).0
+make_large-requires-clause-dest c = (subst (MayBeCalled c.args.heap.now.space.limits.registers) c.in-Big.is c.requires.op).0
 
 pub make_large-requires-clause-blocks : goal.make_large-requires-clause-blocks
-make_large-requires-clause-blocks c = let is = subst MayBeCalled c.in-Big.is c.requires.op in (is.1, is.2)
+make_large-requires-clause-blocks c = let is = subst (MayBeCalled c.args.heap.now.space.limits.registers) c.in-Big.is c.requires.op in (is.1, is.2)
 
 pub put_word-requires-clause-base : goal.put_word-requires-clause-base
-put_word-requires-clause-base c = subst MayBeCalled c.in-BigPut.is c.requires.op
+put_word-requires-clause-base c = subst (MayBeCalled c.args.heap.now.space.limits.registers) c.in-BigPut.is c.requires.op
 
 pub get_word-requires-clause-base : goal.get_word-requires-clause-base
-get_word-requires-clause-base c = subst MayBeCalled c.in-BigGet.is c.requires.op
+get_word-requires-clause-base c = subst (MayBeCalled c.args.heap.now.space.limits.registers) c.in-BigGet.is c.requires.op
 
 pub returns-in-Small : goal.returns-in-Small
 returns-in-Small c = λ h is. subst (λ o. Acts c.args.heap.now c.act_small.new.heap h o c.act_small.result) (sym c.in-Small.is) (c.act_small.ensures h is)

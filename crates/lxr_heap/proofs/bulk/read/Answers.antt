@@ -7,8 +7,8 @@ use Rattle.lxr_heap.proofs.BulkLemmas.{base_is, by_found, reply_held, words_read
 use Rattle.lxr_heap.proofs.HeapLemmas.{may_operate}
 use Rattle.lxr_heap.proofs.bulk.read.Goals as goal
 
-pub name_in-requires-clause-state : goal.name_in-requires-clause-state
-name_in-requires-clause-state c = let (h, is) = c.requires.holds in (abstract_after h is.at, c.args.heap.now.made + 1, may_operate c.args.heap.now h is)
+pub name_in-requires : goal.name_in-requires
+name_in-requires c = let (h, is) = c.requires.holds in record { state = (abstract_after h is.at, c.args.heap.now.made + 1, may_operate c.args.heap.now h is) }
 
 pub returns-in-None-clause-reply : goal.returns-in-None-clause-reply
 returns-in-None-clause-reply c = λ h is.
@@ -26,7 +26,7 @@ pub returns-in-Some-clause-reply : goal.returns-in-Some-clause-reply
 returns-in-Some-clause-reply c = λ h is.
     let x = c.args.heap.now in
     let there = base_is x h is c.args.base (Some c.in-Some.name) (sym c.in-Some.is ∙ c.name_in.ensures (abstract_after h is.at) (x.made + 1) (may_operate x h is)) in
-    c.reply_of.ensures ∙ ap by_found c.read.ensures.found ∙ reply_held x h is c.args.base c.args.index (length c.args.into.now) c.in-Some.name there
+    c.of.ensures ∙ ap by_found c.read.ensures.found ∙ reply_held x h is c.args.base c.args.index (length c.args.into.now) c.in-Some.name there
 
 pub returns-in-Some-clause-words : goal.returns-in-Some-clause-words
 returns-in-Some-clause-words c = λ h is.

@@ -5,8 +5,8 @@ use Rattle.lxr_heap.specs.Holding.{abstract_after}
 use Rattle.lxr_heap.proofs.HeapLemmas.{may_operate}
 use Rattle.lxr_heap.proofs.looking.is_nil.Goals as goal
 
-pub is_nil-requires-clause-state : goal.is_nil-requires-clause-state
-is_nil-requires-clause-state c = let (h, is) = c.requires.holds in (abstract_after h is.at, c.args.heap.now.made + 1, may_operate c.args.heap.now h is)
+pub is_nil-requires : goal.is_nil-requires
+is_nil-requires c = let (h, is) = c.requires.holds in record { state = (abstract_after h is.at, c.args.heap.now.made + 1, may_operate c.args.heap.now h is) }
 
 pub returns : goal.returns
 returns c = λ h is.

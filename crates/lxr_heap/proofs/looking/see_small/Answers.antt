@@ -11,11 +11,11 @@ use Rattle.lxr_heap.proofs.HeapLemmas.{may_operate}
 use Rattle.lxr_heap.proofs.LookingLemmas.{small_reply}
 use Rattle.lxr_heap.proofs.looking.see_small.Goals as goal
 
-pub get-requires-clause-state : goal.get-requires-clause-state
-get-requires-clause-state c = let (h, is) = c.requires.holds in (abstract_after h is.at, c.args.heap.now.made + 1, may_operate c.args.heap.now h is)
+pub get-requires : goal.get-requires
+get-requires c = let (h, is) = c.requires.holds in record { state = (abstract_after h is.at, c.args.heap.now.made + 1, may_operate c.args.heap.now h is) }
 
-pub same-requires-clause-state : goal.same-requires-clause-state
-same-requires-clause-state c = let (h, is) = c.requires.holds in (abstract_after h is.at, c.args.heap.now.made + 1, may_operate c.args.heap.now h is)
+pub same-requires : goal.same-requires
+same-requires c = let (h, is) = c.requires.holds in record { state = (abstract_after h is.at, c.args.heap.now.made + 1, may_operate c.args.heap.now h is) }
 
 pub returns-in-Get : goal.returns-in-Get
 returns-in-Get c = λ h is.

@@ -9,8 +9,8 @@ use Rattle.lxr_heap.proofs.BulkLemmas.{base_is}
 use Rattle.lxr_heap.proofs.HeapLemmas.{may_operate}
 use Rattle.lxr_heap.proofs.looking.see_word.Goals as goal
 
-pub name_in-requires-clause-state : goal.name_in-requires-clause-state
-name_in-requires-clause-state c = let (h, is) = c.requires.holds in (abstract_after h is.at, c.args.heap.now.made + 1, may_operate c.args.heap.now h is)
+pub name_in-requires : goal.name_in-requires
+name_in-requires c = let (h, is) = c.requires.holds in record { state = (abstract_after h is.at, c.args.heap.now.made + 1, may_operate c.args.heap.now h is) }
 
 pub returns-in-None : goal.returns-in-None
 returns-in-None c = λ h is.

@@ -4,8 +4,8 @@ use Rattle.lxr_heap.proofs.HeapLemmas.{may_operate}
 use Rattle.lxr_heap.proofs.LookingLemmas.{nothing_held, shape_told}
 use Rattle.lxr_heap.proofs.looking.shape.Goals as goal
 
-pub object_in-requires-clause-state : goal.object_in-requires-clause-state
-object_in-requires-clause-state c = let (h, is) = c.requires.holds in (abstract_after h is.at, c.args.heap.now.made + 1, may_operate c.args.heap.now h is)
+pub object_in-requires : goal.object_in-requires
+object_in-requires c = let (h, is) = c.requires.holds in record { state = (abstract_after h is.at, c.args.heap.now.made + 1, may_operate c.args.heap.now h is) }
 
 pub returns-in-None : goal.returns-in-None
 returns-in-None c = λ h is.

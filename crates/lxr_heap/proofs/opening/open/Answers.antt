@@ -7,5 +7,5 @@ use Rattle.lxr_heap.proofs.opening.open.Goals as goal
 
 pub returns : goal.returns
 returns c =
-    subst (λ (b : Held). IsOpenedHeap (record { space = c.open.new.self; bodies = b; made = 0; made_before = 0; left = 0; fresh = false }) c.args.blocks c.args.bodies) (sym c.in_ok-open-2.ensures)
-    (opened_heap c.open.new.self c.args.blocks c.args.bodies c.in_ok-open.ensures.opened c.in_ok-open.ensures.space c.in_ok-open.ensures.image)
+    subst (λ (b : Held). IsOpenedHeap (record { space = c.open.new.self; bodies = b; made = 0; made_before = 0; left = 0; fresh = false }) c.args.blocks c.args.bodies c.args.registers) (sym c.in_ok-open-2.ensures)
+    (opened_heap c.open.new.self c.args.blocks c.args.bodies c.args.registers c.in_ok-open.ensures.opened c.in_ok-open.ensures.space c.in_ok-open.ensures.image)

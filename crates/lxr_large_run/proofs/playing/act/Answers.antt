@@ -1,9 +1,9 @@
 use Rattle.std.proofs.Common.{◌∷◌, subst, sym, arith, true, false}
 use Rattle.std.proofs.lemmas.Result.{IfOk-weaker, on_err_weaker}
 use Rattle.lxr_heap.specs.declared.heap.Heap.{Heap}
-use Rattle.lxr_heap.specs.Acting.{Acts, WantsPause}
+use Rattle.lxr_heap.specs.Acting.{Acts, MayBeCalled, WantsPause}
 use Rattle.lxr_large_run.specs.Playing.{IsPlaying}
-use Rattle.lxr_large_run.proofs.EndLemmas.{few_replies}
+use Rattle.lxr_large_run.proofs.EndLemmas.{few_replies, registers_are}
 use Rattle.lxr_large_run.proofs.PlayLemmas.{came_directly}
 use Rattle.lxr_large_run.proofs.playing.act.Goals as goal
 
@@ -13,6 +13,11 @@ act-requires-clause-made g c =
     let few = few_replies task c.args.op rest c.args.heap.now (g.O.Sink.written c.args.output.now) c.args.replies.now.items h p in
     let made = p.made in
     omega (arith, few, made)
+
+pub act-requires-clause-op : goal.act-requires-clause-op
+act-requires-clause-op g c =
+    let (task, same, rest, h, p) = c.requires.playing in
+    subst (λ n. MayBeCalled n c.args.op) (sym (registers_are task (c.args.op ∷ rest) c.args.heap.now (g.O.Sink.written c.args.output.now) c.args.replies.now.items h p)) c.requires.op
 
 pub returns-in-Replied-clause-ok : goal.returns-in-Replied-clause-ok
 returns-in-Replied-clause-ok g c = λ task same rest h p. (

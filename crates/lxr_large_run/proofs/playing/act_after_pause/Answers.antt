@@ -1,10 +1,12 @@
-use Rattle.std.proofs.Common.{subst, sym, arith}
+use Rattle.std.proofs.Common.{◌∙◌, ◌∷◌, ap, subst, sym, arith}
 use Rattle.lxr_graph.specs.History.{report_of}
 use Rattle.lxr_text_print.specs.Reports.{report_text}
 use Rattle.lxr_text_print.proofs.PageLemmas.{OnErr-always}
 use Rattle.lxr_text_stream.specs.Streams.{Appends, AppendsFront}
+use Rattle.lxr_large_model.specs.Full.{LargeTerms}
+use Rattle.lxr_heap.specs.Acting.{MayBeCalled}
 use Rattle.lxr_large_run.specs.Playing.{TellsPrinted}
-use Rattle.lxr_large_run.proofs.EndLemmas.{few_replies}
+use Rattle.lxr_large_run.proofs.EndLemmas.{few_replies, registers_are}
 use Rattle.lxr_large_run.proofs.PlayLemmas.{came_behind, cut_before}
 use Rattle.lxr_heap.proofs.WantingLemmas.{wanted_wants_none}
 use Rattle.lxr_large_run.proofs.RoomLemmas.{wanted_made}
@@ -30,6 +32,12 @@ act_behind-requires-clause-made g c =
     let made = p.made in
     let left = (c.pause.ensures.pauses h p.holds).made in
     omega (arith, few, made, left)
+
+pub act_behind-requires-clause-op : goal.act_behind-requires-clause-op
+act_behind-requires-clause-op g c =
+    let (task, same, rest, h, p, wants) = c.requires.wants in
+    let kept = ap (λ (t : LargeTerms). t.registers) (c.pause.ensures.pauses h p.holds).terms in
+    subst (λ n. MayBeCalled n c.args.op) (sym (kept ∙ registers_are task (c.args.op ∷ rest) c.args.heap.now (g.O.Sink.written c.args.output.now) c.args.replies.now.items h p)) c.requires.op
 
 pub act_behind-requires-clause-ready : goal.act_behind-requires-clause-ready
 act_behind-requires-clause-ready g c =

@@ -1,4 +1,4 @@
-use Rattle.lxr_one_pause.proofs.SettlingLemmas.{at', can_finish, can_raise, gone, is_raised, left, registers_fit, settles}
+use Rattle.lxr_one_pause.proofs.SettlingLemmas.{at', can_finish, can_raise, gone, is_raised, left, registers_as_many, registers_width, settles}
 use Rattle.lxr_one_pause.proofs.counting.settle_counts.Goals as goal
 
 -- src/counting.rt:17:5
@@ -25,9 +25,15 @@ queue_decrements-requires c = (
 )
 
 -- src/counting.rt:20:5
-pub defer_roots-requires : goal.defer_roots-requires
-defer_roots-requires c =
-    registers_fit c.args.space.now c.begin_report.new.space c.requires.0 c.requires.1 c.begin_report.ensures c.finish_decrements.new.space c.finish_decrements.ensures c.increments.new.space c.increments.ensures
+pub defer_roots-requires-clause-as_many : goal.defer_roots-requires-clause-as_many
+defer_roots-requires-clause-as_many c =
+    registers_as_many c.args.space.now c.begin_report.new.space c.requires.0 c.requires.1 c.begin_report.ensures c.finish_decrements.new.space c.finish_decrements.ensures c.increments.new.space c.increments.ensures
+    c.queue_decrements.new.space c.queue_decrements.ensures
+
+-- src/counting.rt:20:5
+pub defer_roots-requires-clause-width : goal.defer_roots-requires-clause-width
+defer_roots-requires-clause-width c =
+    registers_width c.args.space.now c.begin_report.new.space c.requires.0 c.requires.1 c.begin_report.ensures c.finish_decrements.new.space c.finish_decrements.ensures c.increments.new.space c.increments.ensures
     c.queue_decrements.new.space c.queue_decrements.ensures
 
 -- src/counting.rt:12:1

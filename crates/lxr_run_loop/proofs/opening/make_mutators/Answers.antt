@@ -1,14 +1,24 @@
-use Rattle.std.proofs.Common.{rules, arith, ◌≡◌, ◌+◌, ap, sym, ◌∙◌, [], ◌∷◌, ◌++◌, length, append_assoc}
+use Rattle.std.proofs.Common.{rules, arith, ◌≡◌, ◌+◌, ap, subst, sym, ◌∙◌, [], ◌∷◌, ◌++◌, length, append_assoc}
 use Rattle.std.specs.Vec.Iter.{into_iter_items}
 use Rattle.lxr_mutator.specs.Mutators.{first}
-use Rattle.lxr_run_loop.proofs.OpeningLemmas.{all_operations, few_written, made_pushed, thread_of}
+use Rattle.lxr_run_loop.specs.Made.{AreMade}
+use Rattle.lxr_run_loop.proofs.OpeningLemmas.{all_operations, few_written, made_pushed, none_made, thread_of}
 use Rattle.lxr_run_loop.proofs.opening.make_mutators.Goals as goal
+
+pub loop-operations-init : goal.loop-operations-init
+loop-operations-init c = record {
+  taken = ([], search rules, subst (AreMade c.args.limits c.args.every 0 0 []) (sym c.in_ok-actors.ensures.items) (none_made c.args.limits c.args.every));
+  room = search rules;
+  count = search rules;
+  limits = search rules;
+  every = search rules;
+}
 
 pub new-requires-clause-operations : goal.new-requires-clause-operations
 new-requires-clause-operations c =
     let before = c.loop-operations.invariant.taken in
     let split = before.1 ∙ ap (λ xs. before.0 ++ xs) c.in-Some.ensures.steps.0 in
-    all_operations c.in-Some.operations.items (thread_of c.args.script.items before.0 (into_iter_items c.next.new.self) c.in-Some.operations split c.requires.script)
+    all_operations c.args.limits c.in-Some.operations.items c.requires.limits (thread_of c.args.script.items before.0 (into_iter_items c.next.new.self) c.in-Some.operations split c.requires.script)
 
 pub new-requires-clause-few : goal.new-requires-clause-few
 new-requires-clause-few c =

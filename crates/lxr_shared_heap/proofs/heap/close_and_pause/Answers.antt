@@ -35,4 +35,4 @@ returns-in-Err w c =
     let before : Heaped = record { settings = c.args.settings; stage = stage.Within c.args.live } in
     subst (λ l. PausesWith c.args.arrivals.now c.paused_for.result before (record { settings = c.args.settings; stage = stage.Within l })) (sym c.in-Err.ensures.kept)
     (subst (λ p. PausesWith c.args.arrivals.now p before before) (sym c.paused_for.ensures)
-    (not_closed c.args.settings c.args.live c.args.arrivals.now c.in-Err.field-0.why (actors_many c.args.settings script h c.args.live of) c.in-Err.ensures.why c.in-Err.ensures.unended))
+    (not_closed c.args.settings c.args.live c.args.arrivals.now c.in-Err.field-0.why (actors_many c.args.settings script h c.args.live of) c.in-Err.ensures.why c.in-Err.ensures.unended c.in-Err.ensures.wanted))

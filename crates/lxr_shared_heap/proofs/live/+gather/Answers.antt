@@ -47,6 +47,24 @@ returns-in-Some-pop-clause-unwanted t c = λ is.
     unwanted_less (length (arc_value c.args.shared).opening.actors) c.args.number c.args.arrivals.now c.take_pass.new.arrivals c.args.passes.now.items c.push_reserved.new.self.items c.in-Some.pass few c.push_reserved.ensures.items
     c.in-Some.ensures.left (λ s at. one_pass c.in-Some.pass s.pass (c.in-Some.ensures.handed s at)) (c.in-Err-gather.ensures.unwanted is)
 
+pub returns-in-Err-clause-wanted : goal.returns-in-Err-clause-wanted
+returns-in-Err-clause-wanted t c = λ is.
+    let many : c.args.number ≡ length (arc_value c.args.shared).opening.actors = search rules in
+    let wanted : IsPauseWanted (actors_in c.args.passes.now.items) = subst (λ ps. IsPauseWanted (actors_in ps)) c.deref-then-number-count.ensures.value (c.is_pause_wanted.ensures.0 cc) in
+    (c.args.passes.now.items, gathered_all (arc_value c.args.shared) c.args.number c.args.arrivals.now c.args.passes.now.items many c.requires.handed wanted)
+
+pub returns-in-Some-pop-clause-wanted : goal.returns-in-Some-pop-clause-wanted
+returns-in-Some-pop-clause-wanted t c = λ is.
+    let before = c.args.passes.now in
+    let ok = before.ok in
+    let taken : length before.items ≡ c.args.number = (let is = c.requires.taken in omega arith) in
+    let (after, gathered) = c.in-Err-gather.ensures.wanted is in (
+      after,
+      gathered_more (arc_value c.args.shared) c.args.number c.args.arrivals.now c.take_pass.new.arrivals before.items c.push_reserved.new.self.items after c.in-Some.pass c.push_reserved.ensures.items taken
+          (subst (λ (e : Housed). IsPassAt (table_of e) c.args.number c.in-Some.pass) c.deref-2.ensures c.in-Some.ensures.pass) c.in-Some.ensures.left
+          (λ s at. one_pass c.in-Some.pass s.pass (c.in-Some.ensures.handed s at)) c.in-Some.ensures.come_home gathered,
+    )
+
 pub returns-then-not-is_pause_wanted-clause-unwanted : goal.returns-then-not-is_pause_wanted-clause-unwanted
 returns-then-not-is_pause_wanted-clause-unwanted t c = λ is.
     unwanted_last (length (arc_value c.args.shared).opening.actors) c.args.number c.args.arrivals.now c.args.passes.now.items

@@ -21,4 +21,4 @@ pub returns : goal.returns
 returns c =
     let some = eqb-false _ 0 (sym c.is_empty.ensures ∙ c.if-is_empty.false) in
     let long : 0 < length c.args.word.now = omega (arith, some) in
-    sym (rw (is_register c.args.word.now long c.if-word-ne114.false, sym c.number_of.ensures, c.in_ok-number_of.was) (sym c.at_most_15.ensures))
+    sym (rw (is_register c.args.word.now long c.if-word-ne114.false, sym c.number_of.ensures, c.in_ok-number_of.was) (sym c.register_numbered.ensures))

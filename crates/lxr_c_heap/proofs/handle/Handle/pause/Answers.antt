@@ -1,11 +1,17 @@
 use Rattle.std.proofs.Common.{refl, Some, subst}
 use Rattle.std.proofs.lemmas.Option.{same_Some}
 use Rattle.lxr_c_heap.specs.Hosting.{IsServing}
+use Rattle.lxr_c_heap.proofs.RegisterLemmas.{asked_keeps, known, still_counted}
 use Rattle.lxr_c_heap.proofs.CallLemmas.{pauses_done}
 use Rattle.lxr_c_heap.proofs.handle.Handle.pause.Goals as goal
 
 pub pause_asked-requires : goal.pause_asked-requires
 pause_asked-requires c = record { serving = c.args.self.now.serving c.lend.result.now c.lend.ensures.heap }
+
+pub invariant_of-self-clause-counted : goal.invariant_of-self-clause-counted
+invariant_of-self-clause-counted c =
+    let x = c.lend.result.now in
+    still_counted c.args.self.now.block.value x c.pause_asked.new.self _ c.args.self.now.counted c.lend.ensures.heap (known x _ _ (c.args.self.now.serving x c.lend.ensures.heap).holds (λ h is. asked_keeps x c.pause_asked.new.self h c.args.collect (c.pause_asked.ensures.pauses h is)))
 
 pub invariant_of-self-clause-serving : goal.invariant_of-self-clause-serving
 invariant_of-self-clause-serving c = λ x is. subst IsServing (same_Some c.pause_asked.new.self x is) c.pause_asked.ensures.serving

@@ -1,8 +1,12 @@
+use Rattle.std.proofs.Common.{subst}
+use Rattle.lxr_heap.specs.Holding.{IsOpenedHeap}
 use Rattle.lxr_c_heap.proofs.RoomLemmas.{opened_serves, opened_with}
 use Rattle.lxr_c_heap.proofs.host.HostHeap.open.Goals as goal
 
 pub returns-clause-opened : goal.returns-clause-opened
-returns-clause-opened c = opened_with c.in_ok-heap.heap c.args.wanted.now c.of-pace.result c.limit.result _ c.in_ok-heap.ensures c.of-pace.ensures c.limit.ensures
+returns-clause-opened c =
+    let wanted = c.args.wanted.now in
+    opened_with c.in_ok-heap.heap wanted c.of-pace.result c.limit.result _ (subst (IsOpenedHeap c.in_ok-heap.heap wanted.blocks wanted.body_blocks) c.registers.ensures c.in_ok-heap.ensures) c.of-pace.ensures c.limit.ensures
 
 pub returns-clause-serving : goal.returns-clause-serving
 returns-clause-serving c = opened_serves _ c.args.wanted.now (returns-clause-opened c)

@@ -14,6 +14,8 @@ invariant_of-self c =
     let seen_with : Dialogue → Mutating = λ d. record m { operations = d.operations; replies = d.replies } in
     record {
       sound = subst (λ d. IsMutator (seen_with d)) (sym c.order.ensures) (with_order_stays m c.args.op may c.self.invariant.sound);
+      few = c.self.invariant.few;
+      others = c.self.invariant.others;
       tally = subst (λ (d : Dialogue). c.self.inside.tally ≡ tally_of d.replies.items) (sym c.order.ensures) c.self.invariant.tally;
       words = unwiped_between _ _ _ (ap rests_in may.ready);
     }

@@ -30,6 +30,8 @@ invariant_of-self c =
     record {
       sound = subst IsMutator (sym (run_filled m c.take_run.new.self c.place_drawn-place.new.spans c.shape-shape.result span c.place_drawn-place.result c.take_run.ensures.run at.0 at.1))
           (placed_is_mutator m c.shape-shape.result span c.self.invariant.sound busy has (run_in_heap c.args.run (run_in_block c.args.run c.requires.run)));
+      few = c.self.invariant.few;
+      others = c.self.invariant.others;
       tally = c.self.invariant.tally;
       words = c.words_of-self-inside.ensures ∙ ap word_count c.shape-shape.ensures.shape ∙ ap (λ x. word_count (shape_now x)) (sym c.self.view_is);
     }

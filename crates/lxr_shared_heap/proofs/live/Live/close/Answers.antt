@@ -1,8 +1,8 @@
-use Rattle.std.proofs.Common.{◌≡◌, ◌∙◌, ap, length, subst, sym}
+use Rattle.std.proofs.Common.{◌≡◌, ◌∙◌, [], ap, length, subst, sym}
 use Rattle.std.specs.Arc.{arc_value}
 use Rattle.lxr_core_invariant.specs.EpochStates.{Beginning}
 use Rattle.lxr_shared.specs.Sharing.{Sharing, sharing}
-use Rattle.lxr_shared_heap.specs.Gathering.{HaveEndedFrom}
+use Rattle.lxr_shared_heap.specs.Gathering.{HaveEndedFrom, IsWantedByAll}
 use Rattle.lxr_shared_heap.specs.Running.{ClosesLive, IsRunning}
 use Rattle.lxr_shared_heap.specs.Arriving.{AreArrivalsOf}
 use Rattle.lxr_shared_heap.specs.Stations.{Lived, housed_in, table_of}
@@ -24,3 +24,7 @@ returns-in-Ok-clause-handed c = given_up_in c.args.arrivals.now c.gather.new.pas
 pub returns-in-Err-clause-unended : goal.returns-in-Err-clause-unended
 returns-in-Err-clause-unended c = λ is. subst (λ (l : Lived). ¬ HaveEndedFrom (length l.epoch.opening.actors) 0 c.args.arrivals.now) c.self.view_is
     (unended_from (length (arc_value c.self.inside.shared).opening.actors) c.args.arrivals.now c.self.inside.passes.items c.self.invariant.0 (c.in-Err.ensures.unwanted is))
+
+pub returns-in-Err-clause-wanted : goal.returns-in-Err-clause-wanted
+returns-in-Err-clause-wanted c = λ is. subst (λ (l : Lived). IsWantedByAll (housed_in l) 0 c.args.arrivals.now []) c.self.view_is
+    (subst (IsWantedByAll (arc_value c.self.inside.shared) 0 c.args.arrivals.now) c.self.invariant.0 (c.in-Err.ensures.wanted is))

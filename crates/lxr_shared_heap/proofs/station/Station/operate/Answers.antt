@@ -13,7 +13,7 @@ pub returns-then-not-order_at-clause-answer : goal.returns-then-not-order_at-cla
 returns-then-not-order_at-clause-answer c =
     let is = ap (λ (s : Stationed). s.pass) c.self.view_is in
     let not : c.order_at.result ≡ false = cc in
-    unanswered c.args.self.now.pass c.order_at.new.self c.args.op c.why_not.result
+    unanswered c.args.self.now.pass c.order_at.new.self c.args.op c.why_not.result (subst (λ p. any_machine.rests p.actor ≡ true) is c.self.invariant.pass.rests)
     (ap (λ b. (c.order_at.new.self.actor, b)) (sym not) ∙ c.order_at.ensures.answer ∙ ap (λ p. any_machine.ordered p.actor c.args.op) is)
     (subst (λ a. IsNoOrder a c.why_not.result) c.actor.ensures c.why_not.ensures)
 

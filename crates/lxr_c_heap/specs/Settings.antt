@@ -1,0 +1,28 @@
+-- The settings of a heap: which sizes are known, and the ranges of their numbers.
+use Rattle.std.specs.Prelude.{◌≡◌, ℕ, ◌≤◌, ◌==◌, ◌⊎◌, if◌then◌else◌}
+use Rattle.lxr_layout.specs.declared.TheConstants.{MOST_BLOCKS, REGISTERS}
+use Rattle.lxr_c_heap.specs.declared.settings.Settings.{Settings}
+use Rattle.lxr_c_heap.specs.declared.settings.TheConstants.{FIRST_SETTINGS_BYTES, LEAST_REGISTERS, SETTINGS_BYTES}
+
+-- the sizes that are known
+abbrev pub IsKnownSize : ℕ → Type 0
+IsKnownSize size = (size ≡ SETTINGS_BYTES) ⊎ (size ≡ FIRST_SETTINGS_BYTES)
+
+-- so many blocks a heap may have, of either kind
+abbrev pub IsBlockCount : ℕ → Type 0
+IsBlockCount n = (1 ≤ n) × (n ≤ MOST_BLOCKS)
+
+-- so many registers a heap may have
+abbrev pub IsRegisterCount : ℕ → Type 0
+IsRegisterCount n = (LEAST_REGISTERS ≤ n) × (n ≤ REGISTERS)
+
+-- how many registers a heap of these settings has: those of version 0.2 don't say it, and 0 says nothing; then it has the fewest
+abbrev pub registers_of : Settings → ℕ
+registers_of s = if s.size == FIRST_SETTINGS_BYTES then LEAST_REGISTERS else (if s.registers == 0 then LEAST_REGISTERS else s.registers)
+
+-- settings of a size that is known, with such blocks and registers as a heap may have
+pub record AreSettings (s : Settings) : Type 0 where
+  pub size : IsKnownSize s.size
+  pub blocks : IsBlockCount s.blocks
+  pub bodies : IsBlockCount s.body_blocks
+  pub registers : IsRegisterCount (registers_of s)
