@@ -18,7 +18,8 @@ typedef struct object {
 static Object *registers[MEMORY_REGISTERS];
 static Object **stack;
 static size_t stacked, stack_room;
-static uint64_t marking, made, next_marking = LEAST_BETWEEN, most_small, most_large;
+static uint64_t marking, made, most_small, most_large;
+int64_t memory_left = LEAST_BETWEEN;
 
 static Object **references_of(Object *object) { return (Object **)(void *)(object + 1); }
 
@@ -50,7 +51,7 @@ static void mark(void) {
     }
     if (small > most_small) most_small = small;
     if (large > most_large) most_large = large;
-    next_marking = made + (small + large) / 8 + LEAST_BETWEEN;
+    memory_left = (int64_t)((small + large) / 8) + LEAST_BETWEEN;
 }
 
 static bool make(unsigned dest, size_t references, size_t words) {
@@ -60,7 +61,7 @@ static bool make(unsigned dest, size_t references, size_t words) {
     object->words = (uint32_t)words;
     registers[dest] = object;
     made += bytes_of(object);
-    if (made > next_marking) mark();
+    memory_left -= (int64_t)bytes_of(object);
     return true;
 }
 
@@ -86,6 +87,8 @@ void memory_move(unsigned dest, unsigned source) { registers[dest] = registers[s
 void memory_nil(unsigned dest) { registers[dest] = NULL; }
 
 bool memory_same(unsigned left, unsigned right) { return registers[left] == registers[right]; }
+
+void memory_registers_in_use(unsigned count) { memset(registers + count, 0, (MEMORY_REGISTERS - count) * sizeof *registers); }
 
 bool memory_new_with(unsigned dest, const uint32_t *sources, size_t references, const Word *data, size_t words) {
     if (!make(dest, references, words)) return false;
@@ -115,6 +118,8 @@ void memory_read(unsigned base, size_t index, Word *into, size_t count) {
 void memory_write(unsigned base, size_t index, const Word *from, size_t count) {
     memcpy(words_of(registers[base]) + index, from, count * sizeof *from);
 }
+
+void memory_pause(void) { mark(); }
 
 void memory_collect(void) { mark(); }
 

@@ -1,45 +1,25 @@
 /*
  * The compiler: from a tree of expressions to instructions. SPDX: MIT OR Apache-2.0
  *
- * A procedure's variables stand in registers from their binding to the end of its scope, and what an expression is made of beside them. A
- * procedure captures the values of the variables around it when it is made; a variable that is assigned stands in a slot, which is captured
- * in its place. Sets of registers are bits of an unsigned number. What is compiled knows which registers are needed after it (`live`), so
- * that a call's frame has these alone.
+ * A procedure's variables stand in its window, in registers from their binding to the end of its scope, and what an expression is made of
+ * behind them: registers are taken and given back as those of a stack. So what a call needs, its procedure and its arguments, is computed
+ * into the last registers, where the callee's window begins, and nothing is moved. A procedure captures the values of the variables around
+ * it when it is made; a variable that is assigned stands in a slot, which is captured in its place. Sets of registers are bits of a number.
+ * What is compiled knows which registers are needed after it (`live`), so that a frame has these alone, and a pause keeps these alone.
  *
  * Where too few registers are left, an expression becomes a procedure without parameters, and is called at once: what it uses is captured.
  */
 #include "compiler.h"
 #include "arena.h"
-#include <string.h>
+#include "unit.h"
 
 enum {
-    NOWHERE = REGISTERS, /* a destination: the value isn't needed */
-    CALLER,              /* a destination: the value is returned */
     MOVES_MOST = ARGUMENTS_MOST + 1,
     LETREC_REGISTERS = 4, /* so many variables of a letrec stand in registers; where there are more, all stand in slots */
     OUTSIDE = 2,          /* registers that it takes to make a procedure of an expression */
-    SPARE = 3             /* registers that are left free after a binding */
+    SPARE = 3,            /* registers that are left free after a binding */
+    PLENTY = 8            /* registers that are free where what was read stays in one */
 };
-
-/* A procedure that is compiled. */
-typedef struct unit {
-    Machine *machine;
-    struct unit *outer;
-    const Variable *self; /* the variable whose value the procedure is, or null */
-    Variable **captured;
-    unsigned captured_count, captured_room;
-    Instruction *instructions;
-    Position *positions;
-    size_t count, room;
-    unsigned busy; /* the registers that are taken */
-    Position at;
-} Unit;
-
-/* Instructions whose jump goes to where isn't known yet. */
-typedef struct jumps {
-    size_t *from;
-    size_t count, room;
-} Jumps;
 
 /* A register that gets a value: of a node, or of another register once the node is computed. */
 typedef struct move {
@@ -48,173 +28,83 @@ typedef struct move {
     bool is_computed, is_done;
 } Move;
 
-static void compile_to(Unit *unit, Node *node, unsigned dest, unsigned live);
-
-static unsigned bit(unsigned place) { return place < REGISTERS ? 1u << place : 0; }
-
-static void *grown(void *old, size_t count, size_t room, size_t size) {
-    void *const array = arena_take(room * size);
-    return count ? memcpy(array, old, count * size) : array;
-}
-
-static size_t emit(Unit *unit, Opcode op, unsigned a, unsigned b, unsigned c, int64_t n) {
-    if (unit->count == unit->room) {
-        const size_t room = unit->room ? 2 * unit->room : 32;
-        unit->instructions = grown(unit->instructions, unit->count, room, sizeof *unit->instructions);
-        unit->positions = grown(unit->positions, unit->count, room, sizeof *unit->positions);
-        unit->room = room;
-    }
-    unit->instructions[unit->count] = (Instruction){.op = (uint8_t)op, .a = (uint8_t)a, .b = (uint8_t)b, .c = (uint8_t)c, .n = (int32_t)n};
-    unit->positions[unit->count] = unit->at;
-    return unit->count++;
-}
-
-static void jump_later(Jumps *jumps, size_t from) {
-    if (jumps->count == jumps->room) {
-        const size_t room = jumps->room ? 2 * jumps->room : 8;
-        jumps->from = grown(jumps->from, jumps->count, room, sizeof *jumps->from);
-        jumps->room = room;
-    }
-    jumps->from[jumps->count++] = from;
-}
-
-/* The jumps go to the next instruction. */
-static void land(Unit *unit, const Jumps *jumps) {
-    for (size_t i = 0; i < jumps->count; i++) unit->instructions[jumps->from[i]].n = (int32_t)(unit->count - jumps->from[i] - 1);
-}
-
-/* Registers */
-
-static unsigned free_count(const Unit *unit) {
-    return REGISTER_END - REGISTER_FIRST - (unsigned)__builtin_popcount(unit->busy >> REGISTER_FIRST);
-}
-
-/* A free register, the wanted one where it is free; else the last one, as arguments stand in the first. */
-static unsigned take_register(Unit *unit, unsigned wanted) {
-    unsigned place = wanted;
-    if (place < REGISTER_FIRST || place >= REGISTER_END || unit->busy & bit(place)) {
-        place = REGISTER_END - 1;
-        while (unit->busy & bit(place)) place--;
-        if (place < REGISTER_FIRST) fault(unit->at, "this takes too many registers");
-    }
-    unit->busy |= bit(place);
-    return place;
-}
-
-static unsigned take_any(Unit *unit) { return take_register(unit, 0); }
-
-static unsigned live_variable(const Unit *unit, const Variable *variable) {
-    if (variable->slots) return live_variable(unit, variable->slots);
-    if (!variable->owner) return 0;
-    return variable->owner == unit ? bit(variable->place) : bit(REGISTER_PROCEDURE);
-}
-
-/* The registers that a node reads, of those whose variables are bound. */
-static unsigned registers_of(const Unit *unit, const Node *node) {
-    unsigned registers = node->variable ? live_variable(unit, node->variable) : 0;
-    for (unsigned i = 0; i < node->count; i++) registers |= registers_of(unit, node->nodes[i]);
-    return registers;
-}
-
-static void bind(Unit *unit, Variable *variable, unsigned place) {
-    variable->owner = unit;
-    variable->place = place;
-}
-
-/* Variables stand in slots of what a register holds. */
-static void bind_slots(Unit *unit, Variable **variables, unsigned count, unsigned place) {
-    Variable *const slots = arena_take(sizeof *slots);
-    bind(unit, slots, place);
-    for (unsigned i = 0; i < count; i++) {
-        variables[i]->slots = slots;
-        variables[i]->slot = i;
-    }
-}
-
-/* A variable has the value that a register holds; where it is assigned, that goes into a slot. */
-static void bind_value(Unit *unit, Variable *variable, unsigned place) {
-    bind(unit, variable, place);
-    if (!variable->is_assigned) return;
-    emit(unit, OP_SLOTS, REGISTER_SCRATCH, 0, 0, 1);
-    emit(unit, OP_SLOT_SET, REGISTER_SCRATCH, place, 0, 0);
-    emit(unit, OP_MOVE, place, REGISTER_SCRATCH, 0, 0);
-    bind_slots(unit, &variable, 1, place);
-}
-
-/* The register in which a variable stands, or NOWHERE. */
-static unsigned place_of(const Unit *unit, const Variable *variable) {
-    if (variable == unit->self) return REGISTER_PROCEDURE;
-    return !variable->slots && variable->owner == unit ? variable->place : NOWHERE;
-}
-
-static unsigned capture(Unit *unit, Variable *variable) {
-    for (unsigned i = 0; i < unit->captured_count; i++) {
-        if (unit->captured[i] == variable) return i;
-    }
-    if (unit->captured_count == unit->captured_room) {
-        const unsigned room = unit->captured_room ? 2 * unit->captured_room : 8;
-        unit->captured = grown(unit->captured, unit->captured_count, room, sizeof(Variable *));
-        unit->captured_room = room;
-    }
-    if (unit->captured_count == UINT8_MAX) fault(unit->at, "a procedure uses more than %d variables around it", UINT8_MAX);
-    unit->captured[unit->captured_count] = variable;
-    return unit->captured_count++;
-}
-
-static void load_variable(Unit *unit, Variable *variable, unsigned dest) {
-    const unsigned place = place_of(unit, variable);
-    if (place != NOWHERE) {
-        if (place != dest) emit(unit, OP_MOVE, dest, place, 0, 0);
-    } else if (variable->slots) {
-        unsigned slots = place_of(unit, variable->slots);
-        if (slots == NOWHERE) emit(unit, OP_CAPTURED, slots = dest, 0, 0, capture(unit, variable->slots));
-        emit(unit, OP_SLOT_GET, dest, slots, 0, variable->slot);
-    } else {
-        emit(unit, OP_CAPTURED, dest, 0, 0, capture(unit, variable));
-    }
-}
+static void compile_to(Unit *unit, Node *node, unsigned dest, Registers live);
 
 /* Operands */
 
+static bool is_field(const Node *node) {
+    return node->kind == NODE_PRIMITIVE && (node->primitive->op == OP_CAR || node->primitive->op == OP_CDR);
+}
+
 /* The operand of a node that needs no instruction, or NOWHERE. */
 static unsigned ready_operand(Unit *unit, const Node *node) {
-    if (node->kind == NODE_LOCAL) return place_of(unit, node->variable);
+    if (node->kind == NODE_LOCAL) {
+        const unsigned place = place_of(unit, node->variable);
+        return place == NOWHERE ? recall(unit, OP_CAPTURED, captured_as(unit, node->variable)) : place;
+    }
+    if (is_field(node)) {
+        const unsigned of = ready_operand(unit, node->nodes[0]);
+        return of < WINDOW_REGISTERS ? recall(unit, node->primitive->op, of) : NOWHERE;
+    }
     if (node->kind != NODE_WORD) return NOWHERE;
     const unsigned constant = machine_constant(unit->machine, node->word);
     return constant ? constant : NOWHERE;
 }
 
-static unsigned operand(Unit *unit, Node *node, unsigned live) {
+static unsigned operand(Unit *unit, Node *node, Registers live);
+
+/* A field, or a captured variable, goes into a register, and is known to be there. */
+static unsigned remembered_operand(Unit *unit, Node *node, Registers live) {
+    const bool is_pair = is_field(node);
+    const Opcode op = is_pair ? node->primitive->op : OP_CAPTURED;
+    const unsigned of = is_pair ? operand(unit, node->nodes[0], live) : capture(unit, node->variable);
+    const unsigned place = take_any(unit);
+    unit->at = node->at;
+    emit(unit, op, place, is_pair ? of : 0, 0, is_pair ? 0 : of);
+    if (!is_pair || of < WINDOW_REGISTERS) remember(unit, (Known){.op = op, .of = of, .place = place, .is_spare = true});
+    return place;
+}
+
+static unsigned operand(Unit *unit, Node *node, Registers live) {
     const unsigned ready = ready_operand(unit, node);
+    const bool is_captured = node->kind == NODE_LOCAL && !node->variable->slots;
     if (ready != NOWHERE) return ready;
+    if ((is_field(node) || is_captured) && free_count(unit) > PLENTY) return remembered_operand(unit, node, live);
     const unsigned place = take_any(unit);
     compile_to(unit, node, place, live);
     return place;
 }
 
-/* All operands of a node. */
-static void operands(Unit *unit, Node *node, unsigned live, unsigned *places) {
+/* All operands of a node. Answers the registers among them. */
+static Registers operands(Unit *unit, Node *node, Registers live, unsigned *places) {
+    Registers taken = 0;
     for (unsigned i = 0; i < node->count; i++) {
-        unsigned needed = live;
-        for (unsigned k = 0; k < i; k++) needed |= bit(places[k]);
+        Registers needed = live | taken;
         for (unsigned k = i + 1; k < node->count; k++) needed |= registers_of(unit, node->nodes[k]);
         places[i] = operand(unit, node->nodes[i], needed);
+        taken |= bit(places[i]);
     }
+    return taken;
 }
 
-/* Where an instruction writes what goes to a destination. */
-static unsigned written(unsigned dest) { return dest < REGISTERS ? dest : REGISTER_SCRATCH; }
+/* Where the last instruction writes what goes to a destination. */
+static unsigned written(Unit *unit, unsigned dest) {
+    if (dest == CALLER) return OWN_PROCEDURE;
+    if (dest != NOWHERE) return dest;
+    want_window(unit, top_of(unit) + 1);
+    return top_of(unit);
+}
 
 /* What an operand holds goes to a destination. */
 static void deliver(Unit *unit, unsigned dest, unsigned place) {
     if (dest == CALLER) emit(unit, OP_RETURN, place, 0, 0, 0);
-    if (dest < REGISTERS && dest != place) emit(unit, OP_MOVE, dest, place, 0, 0);
+    if (dest < NOWHERE && dest != place) emit(unit, OP_MOVE, dest, place, 0, 0);
 }
 
 static void deliver_word(Unit *unit, unsigned dest, Word word) {
     if (dest == NOWHERE) return;
     unsigned place = machine_constant(unit->machine, word);
-    if (!place) emit(unit, OP_WORD, place = written(dest), 0, 0, (int64_t)machine_add_word(word));
+    if (!place) emit(unit, OP_WORD, place = written(unit, dest), 0, 0, (int64_t)machine_add_word(word));
     deliver(unit, dest, place);
 }
 
@@ -222,44 +112,47 @@ static void deliver_word(Unit *unit, unsigned dest, Word word) {
 
 static bool is_constant(const Node *node, Word word) { return node->kind == NODE_WORD && node->word == word; }
 
+/* A primitive whose value is true or false. */
+static bool is_test(const Node *node) { return node->kind == NODE_PRIMITIVE && node->primitive->shape == SHAPE_TEST; }
+
 static bool is_not(const Node *node) {
     return node->kind == NODE_PRIMITIVE && node->primitive->op == OP_SAME && node->count == 2 && is_constant(node->nodes[1], FALSE);
 }
 
 /* Goes on where the value of a node isn't false, and else jumps. */
-static void compile_test(Unit *unit, Node *node, unsigned live, Jumps *fails);
+static void compile_test(Unit *unit, Node *node, Registers live, Jumps *fails);
 
-static void compile_test_primitive(Unit *unit, Node *node, unsigned live, Jumps *fails) {
+static void compile_test_primitive(Unit *unit, Node *node, Registers live, Jumps *fails) {
     unsigned places[2] = {0};
-    const unsigned busy = unit->busy;
+    const Registers busy = unit->busy;
     operands(unit, node, live, places);
     unit->at = node->at;
     const unsigned second = node->primitive->op == OP_IS ? (unsigned)node->primitive->kind : places[1];
-    jump_later(fails, emit(unit, node->primitive->op, places[0], second, 0, 0));
-    unit->busy = busy;
+    jump_later(unit, fails, emit(unit, node->primitive->op, places[0], second, 0, 0));
+    give_back(unit, busy | known_registers(unit));
 }
 
 /* What is tested where another test ended this way or that: `fails` of the first jump here. */
-static void compile_test_either(Unit *unit, Node *node, Jumps *before, unsigned live, Jumps *fails) {
+static void compile_test_either(Unit *unit, Node *node, Jumps *before, Registers live, Jumps *fails) {
     Jumps end = {0};
-    jump_later(&end, emit(unit, OP_JUMP, 0, 0, 0, 0));
-    land(unit, before);
+    jump_later(unit, &end, emit(unit, OP_JUMP, 0, 0, 0, 0));
+    land(unit, before, false);
     compile_test(unit, node, live, fails);
-    land(unit, &end);
+    land(unit, &end, true);
 }
 
-static void compile_test(Unit *unit, Node *node, unsigned live, Jumps *fails) {
+static void compile_test(Unit *unit, Node *node, Registers live, Jumps *fails) {
     Jumps first = {0};
     unit->at = node->at;
     if (is_constant(node, FALSE)) {
-        jump_later(fails, emit(unit, OP_JUMP, 0, 0, 0, 0));
+        jump_later(unit, fails, emit(unit, OP_JUMP, 0, 0, 0, 0));
     } else if (node->kind == NODE_WORD) {
         return;
     } else if (is_not(node)) {
         compile_test(unit, node->nodes[0], live, &first);
-        jump_later(fails, emit(unit, OP_JUMP, 0, 0, 0, 0));
-        land(unit, &first);
-    } else if (node->kind == NODE_PRIMITIVE && node->primitive->shape == SHAPE_TEST) {
+        jump_later(unit, fails, emit(unit, OP_JUMP, 0, 0, 0, 0));
+        land(unit, &first, false);
+    } else if (is_test(node)) {
         compile_test_primitive(unit, node, live, fails);
     } else if (node->kind == NODE_IF && is_constant(node->nodes[2], FALSE)) {
         compile_test(unit, node->nodes[0], live | registers_of(unit, node->nodes[1]), fails);
@@ -272,87 +165,99 @@ static void compile_test(Unit *unit, Node *node, unsigned live, Jumps *fails) {
         compile_test(unit, node->nodes[0], live | registers_of(unit, node->nodes[1]), &first);
         compile_test_either(unit, node->nodes[1], &first, live, fails);
     } else {
-        const unsigned busy = unit->busy;
+        const Registers busy = unit->busy;
         const unsigned place = operand(unit, node, live);
-        jump_later(fails, emit(unit, OP_UNLESS, place, 0, 0, 0));
-        unit->busy = busy;
+        jump_later(unit, fails, emit(unit, OP_UNLESS, place, 0, 0, 0));
+        give_back(unit, busy | known_registers(unit));
     }
 }
 
-static void compile_if(Unit *unit, Node *node, unsigned dest, unsigned live) {
+static void compile_if(Unit *unit, Node *node, unsigned dest, Registers live) {
     Jumps otherwise = {0}, end = {0};
     compile_test(unit, node->nodes[0], live | registers_of(unit, node->nodes[1]) | registers_of(unit, node->nodes[2]), &otherwise);
     compile_to(unit, node->nodes[1], dest, live);
-    if (dest != CALLER) jump_later(&end, emit(unit, OP_JUMP, 0, 0, 0, 0));
-    land(unit, &otherwise);
+    if (dest != CALLER) jump_later(unit, &end, emit(unit, OP_JUMP, 0, 0, 0, 0));
+    land(unit, &otherwise, false);
     compile_to(unit, node->nodes[2], dest, live);
-    land(unit, &end);
+    land(unit, &end, true);
 }
 
-static void compile_or(Unit *unit, Node *node, unsigned dest, unsigned live) {
-    const unsigned busy = unit->busy, needed = live | registers_of(unit, node->nodes[1]);
+static void compile_or(Unit *unit, Node *node, unsigned dest, Registers live) {
+    const Registers needed = live | registers_of(unit, node->nodes[1]);
     Jumps otherwise = {0}, end = {0};
-    const unsigned place = operand(unit, node->nodes[0], needed);
-    jump_later(&otherwise, emit(unit, OP_UNLESS, place, 0, 0, 0));
-    deliver(unit, dest, place);
-    if (dest != CALLER) jump_later(&end, emit(unit, OP_JUMP, 0, 0, 0, 0));
-    unit->busy = busy;
-    land(unit, &otherwise);
+    if (is_test(node->nodes[0])) {
+        compile_test(unit, node->nodes[0], needed, &otherwise);
+        deliver_word(unit, dest, TRUE);
+    } else {
+        const unsigned place = operand(unit, node->nodes[0], needed);
+        jump_later(unit, &otherwise, emit(unit, OP_UNLESS, place, 0, 0, 0));
+        deliver(unit, dest, place);
+    }
+    if (dest != CALLER) jump_later(unit, &end, emit(unit, OP_JUMP, 0, 0, 0, 0));
+    land(unit, &otherwise, false);
     compile_to(unit, node->nodes[1], dest, live);
-    land(unit, &end);
+    land(unit, &end, true);
 }
 
 /* Primitives and lists */
 
-static void compile_truth(Unit *unit, Node *node, unsigned dest, unsigned live) {
+static void compile_truth(Unit *unit, Node *node, unsigned dest, Registers live) {
     Jumps otherwise = {0}, end = {0};
     compile_test(unit, node, live, &otherwise);
     deliver_word(unit, dest, TRUE);
-    if (dest != CALLER) jump_later(&end, emit(unit, OP_JUMP, 0, 0, 0, 0));
-    land(unit, &otherwise);
+    if (dest != CALLER) jump_later(unit, &end, emit(unit, OP_JUMP, 0, 0, 0, 0));
+    land(unit, &otherwise, false);
     deliver_word(unit, dest, FALSE);
-    land(unit, &end);
+    land(unit, &end, true);
 }
 
-static void compile_primitive(Unit *unit, Node *node, unsigned dest, unsigned live) {
+static void compile_primitive(Unit *unit, Node *node, unsigned dest, Registers live) {
     const Primitive *const primitive = node->primitive;
     unsigned places[3] = {0};
     if (primitive->shape == SHAPE_TEST) {
         compile_truth(unit, node, dest, live);
         return;
     }
-    operands(unit, node, live, places);
-    unit->at = node->at;
-    const unsigned to = primitive->shape == SHAPE_EFFECT ? REGISTER_SCRATCH : written(dest);
-    if (primitive->op == OP_FUNCTION) {
-        emit(unit, OP_FUNCTION, to, places[0], places[1], (int64_t)(primitive - primitives) | (int64_t)places[2] << 16);
-    } else if (primitive->shape == SHAPE_EFFECT) {
-        emit(unit, primitive->op, places[0], places[1], places[2], 0);
-    } else {
-        emit(unit, primitive->op, to, places[0], places[1], 0);
+    const unsigned ready = ready_operand(unit, node);
+    if (ready != NOWHERE) {
+        deliver(unit, dest, ready);
+        return;
     }
-    if (primitive->shape == SHAPE_EFFECT) {
+    const Registers needed = live | operands(unit, node, live, places);
+    const bool is_effect = primitive->shape == SHAPE_EFFECT;
+    const unsigned to = is_effect ? OWN_PROCEDURE : written(unit, dest); /* an effect writes nothing */
+    unit->at = node->at;
+    if (primitive->op == OP_FUNCTION) {
+        const int64_t function = (int64_t)(primitive - primitives) | (int64_t)places[2] << 16;
+        emit_with(unit, needed, OP_FUNCTION, to, places[0], places[1], function);
+    } else if (is_effect) {
+        emit_with(unit, needed, primitive->op, places[0], places[1], places[2], 0);
+    } else {
+        emit_with(unit, needed, primitive->op, to, places[0], places[1], 0);
+    }
+    if (is_effect) {
         deliver_word(unit, dest, UNSPECIFIED);
     } else {
         deliver(unit, dest, to);
     }
 }
 
-/* A list is made from its end on, so that two registers are enough. */
-static void compile_list(Unit *unit, Node *node, unsigned dest, unsigned live) {
-    unsigned needed = live;
+/* A list is made from its end on, by turns in two registers. */
+static void compile_list(Unit *unit, Node *node, unsigned dest, Registers live) {
+    Registers needed = live;
     for (unsigned i = 0; i + 1 < node->count; i++) needed |= registers_of(unit, node->nodes[i]);
-    unsigned list = operand(unit, node->nodes[node->count - 1], needed);
+    const unsigned pairs[] = {take_any(unit), take_any(unit)};
+    unsigned list = ready_operand(unit, node->nodes[node->count - 1]);
+    if (list == NOWHERE) compile_to(unit, node->nodes[node->count - 1], list = pairs[1], needed);
     for (unsigned i = node->count - 1; i > 0; i--) {
-        const unsigned busy = unit->busy;
+        const Registers busy = unit->busy;
         needed = live | bit(list);
         for (unsigned k = 0; k + 1 < i; k++) needed |= registers_of(unit, node->nodes[k]);
         const unsigned item = operand(unit, node->nodes[i - 1], needed);
+        const unsigned into = i == 1 ? written(unit, dest) : list == pairs[0] ? pairs[1] : pairs[0];
         unit->at = node->at;
-        unit->busy = busy;
-        const bool is_own = list >= REGISTER_FIRST && list < REGISTER_END && list != ready_operand(unit, node->nodes[node->count - 1]);
-        const unsigned into = i == 1 ? written(dest) : is_own ? list : take_any(unit);
-        emit(unit, OP_CONS, into, item, list, 0);
+        emit_with(unit, needed | bit(item), OP_CONS, into, item, list, 0);
+        give_back(unit, busy);
         list = into;
     }
     deliver(unit, dest, list);
@@ -378,8 +283,8 @@ static bool is_simple(const Node *node) {
 }
 
 /* What the moves that aren't done, but one, still read. */
-static unsigned read_later(const Unit *unit, const Move *moves, unsigned count, unsigned but) {
-    unsigned registers = 0;
+static Registers read_later(const Unit *unit, const Move *moves, unsigned count, unsigned but) {
+    Registers registers = 0;
     for (unsigned i = 0; i < count; i++) {
         if (i == but || moves[i].is_done) continue;
         registers |= moves[i].is_computed ? bit(moves[i].source) : registers_of(unit, moves[i].node);
@@ -388,8 +293,8 @@ static unsigned read_later(const Unit *unit, const Move *moves, unsigned count, 
 }
 
 /* What moves that are done have written. */
-static unsigned written_before(const Move *moves, unsigned count) {
-    unsigned registers = 0;
+static Registers written_before(const Move *moves, unsigned count) {
+    Registers registers = 0;
     for (unsigned i = 0; i < count; i++) {
         if (moves[i].is_done) registers |= bit(moves[i].target);
     }
@@ -397,7 +302,7 @@ static unsigned written_before(const Move *moves, unsigned count) {
 }
 
 /* Computes what calls procedures, into registers beside those of variables. */
-static void compute_calls(Unit *unit, Move *moves, unsigned count, unsigned live) {
+static void compute_calls(Unit *unit, Move *moves, unsigned count, Registers live) {
     for (unsigned i = 0; i < count; i++) {
         if (is_simple(moves[i].node)) continue;
         moves[i].source = take_register(unit, moves[i].target);
@@ -427,12 +332,11 @@ static unsigned choose_move(const Unit *unit, const Move *moves, unsigned count,
 }
 
 /* Computes the others straight into their targets, where these aren't read any more. */
-static void compute_simple(Unit *unit, Move *moves, unsigned count, unsigned live) {
+static void compute_simple(Unit *unit, Move *moves, unsigned count, Registers live) {
     bool is_direct = false;
     for (unsigned i = choose_move(unit, moves, count, &is_direct); i < count; i = choose_move(unit, moves, count, &is_direct)) {
-        const unsigned needed = live | read_later(unit, moves, count, i) | written_before(moves, count);
+        const Registers needed = live | read_later(unit, moves, count, i) | written_before(moves, count);
         moves[i].source = is_direct ? moves[i].target : take_any(unit);
-        if (is_direct) unit->busy |= bit(moves[i].target);
         compile_to(unit, moves[i].node, moves[i].source, needed);
         moves[i].is_computed = true;
         moves[i].is_done = is_direct;
@@ -441,6 +345,7 @@ static void compute_simple(Unit *unit, Move *moves, unsigned count, unsigned liv
 
 /* Does the moves from register to register: each once nothing reads its target; what goes round has one of its registers moved aside. */
 static void move_registers(Unit *unit, Move *moves, unsigned count) {
+    unsigned aside = NOWHERE;
     for (;;) {
         unsigned waits = count;
         bool has_moved = false;
@@ -459,34 +364,105 @@ static void move_registers(Unit *unit, Move *moves, unsigned count) {
         }
         if (waits == count) return;
         if (has_moved) continue;
-        emit(unit, OP_MOVE, REGISTER_SCRATCH, moves[waits].target, 0, 0);
+        if (aside == NOWHERE) aside = take_any(unit);
+        emit(unit, OP_MOVE, aside, moves[waits].target, 0, 0);
         for (unsigned i = 0; i < count; i++) {
-            if (!moves[i].is_done && moves[i].source == moves[waits].target) moves[i].source = REGISTER_SCRATCH;
+            if (!moves[i].is_done && moves[i].source == moves[waits].target) moves[i].source = aside;
         }
     }
 }
 
-static void compute_moves(Unit *unit, Move *moves, unsigned count, unsigned live) {
+static void compute_moves(Unit *unit, Move *moves, unsigned count, Registers live) {
+    for (unsigned i = 0; i < count; i++) unit->busy |= bit(moves[i].target); /* what is computed aside is so behind these */
     find_ready(unit, moves, count);
     compute_simple(unit, moves, count, live);
     move_registers(unit, moves, count);
+    forget_all(unit);
 }
 
-static void compile_call(Unit *unit, Node *node, unsigned dest, unsigned live) {
+/* What a tail call needs stands where the procedure that runs had it. */
+static void compile_tail_call(Unit *unit, Node *node) {
     Move moves[MOVES_MOST] = {0};
-    const Opcode op = node->kind == NODE_APPLY ? OP_APPLY : OP_CALL;
-    const unsigned needed = dest == CALLER ? 0 : live & ~bit(dest);
-    size_t frame = 0;
-    for (unsigned i = 0; i < node->count; i++) {
-        moves[i] = (Move){.node = node->nodes[i], .target = i ? REGISTER_FIRST + i - 1 : REGISTER_PROCEDURE};
-    }
-    compute_calls(unit, moves, node->count, needed);
-    unit->at = node->at;
-    if (dest != CALLER) frame = emit(unit, OP_FRAME, written(dest), needed & 0xffu, needed >> 8, 0);
+    for (unsigned i = 0; i < node->count; i++) moves[i] = (Move){.node = node->nodes[i], .target = OWN_PROCEDURE + i};
+    want_window(unit, node->count);
+    compute_calls(unit, moves, node->count, 0);
     compute_moves(unit, moves, node->count, 0);
     unit->at = node->at;
-    emit(unit, op, 0, node->count - 1, 0, 0);
-    if (dest != CALLER) unit->instructions[frame].n = (int32_t)(unit->count - frame - 1);
+    emit(unit, node->kind == NODE_APPLY ? OP_TAIL_APPLY : OP_TAIL_CALL, 0, node->count - 1, unit->at.line != 0, 0);
+}
+
+/* Whether a register is the last one that is taken, and has nothing yet: the window of what is called begins there. */
+static bool is_last(const Unit *unit, const Node *node, unsigned place, Registers live) {
+    return place + 1 == top_of(unit) && !((live | registers_of(unit, node)) & bit(place));
+}
+
+/* The registers of what is known that a node reads. */
+static Registers known_by(Unit *unit, const Node *node) {
+    Registers registers = 0;
+    for (unsigned i = 0; i < node->count; i++) registers |= known_by(unit, node->nodes[i]);
+    if (is_field(node) || node->kind == NODE_LOCAL) {
+        const unsigned ready = ready_operand(unit, node);
+        if (ready != NOWHERE) registers |= bit(ready);
+    }
+    return registers;
+}
+
+/* A call begins, after which nothing of this is known: what it doesn't read, and nobody else, gives back its register. */
+static void forget_unread(Unit *unit, const Node *node, Registers live) {
+    Registers unread = 0;
+    for (unsigned i = 0; i < unit->known.count; i++) {
+        if (unit->known.items[i].is_spare) unread |= bit(unit->known.items[i].place);
+    }
+    give_back(unit, unit->busy & ~(unread & ~(live | known_by(unit, node))));
+}
+
+/* What those nodes read whose bits are set. */
+static Registers registers_of_some(const Unit *unit, const Node *node, unsigned which) {
+    Registers registers = 0;
+    for (unsigned i = 0; i < node->count; i++) {
+        if (which >> i & 1) registers |= registers_of(unit, node->nodes[i]);
+    }
+    return registers;
+}
+
+/* A call: what it needs goes into registers one behind the other. First what calls others is computed, each part where no register behind
+ * its own is taken yet, so that its own call begins there. */
+static void compile_call(Unit *unit, Node *node, unsigned dest, Registers live) {
+    const Registers after = live & ~bit(dest);
+    forget_unread(unit, node, live);
+    const unsigned first = is_last(unit, node, dest, live) ? dest : take_any(unit);
+    Registers needed = after;
+    unsigned left = ~0u;
+    for (unsigned i = 0; i < node->count; i++) {
+        if (i) take_any(unit);
+        if (is_simple(node->nodes[i])) continue;
+        left &= ~(1u << i);
+        compile_to(unit, node->nodes[i], first + i, needed | registers_of_some(unit, node, left));
+        needed |= bit(first + i);
+    }
+    for (unsigned i = 0; i < node->count; i++) {
+        if (!(left >> i & 1)) continue;
+        left &= ~(1u << i);
+        compile_to(unit, node->nodes[i], first + i, needed | registers_of_some(unit, node, left));
+        needed |= bit(first + i);
+    }
+    unit->at = node->at;
+    emit_with(unit, after, node->kind == NODE_APPLY ? OP_APPLY : OP_CALL, first, node->count - 1, unit->at.line != 0, 0);
+    deliver(unit, dest, first);
+}
+
+static void compile_any_call(Unit *unit, Node *node, unsigned dest, Registers live) {
+    if (dest == CALLER) {
+        compile_tail_call(unit, node);
+    } else {
+        compile_call(unit, node, dest, live);
+    }
+}
+
+static Registers places_of(const Loop *loop, unsigned count) {
+    Registers registers = 0;
+    for (unsigned i = 0; i < count; i++) registers |= bit(loop->places[i]);
+    return registers;
 }
 
 /* The loop's variables get their next values, and it goes on from its start. */
@@ -497,80 +473,92 @@ static void compile_again(Unit *unit, Node *node) {
     for (unsigned i = 0; i < count; i++) moves[i] = (Move){.node = node->nodes[i + 1], .target = loop->places[i]};
     compute_calls(unit, moves, count, loop->live);
     compute_moves(unit, moves, count, loop->live);
-    emit(unit, OP_JUMP, 0, 0, 0, (int64_t)loop->start - (int64_t)unit->count - 1);
+    emit_with(unit, loop->live | places_of(loop, count), OP_JUMP, 0, 0, 0, (int64_t)loop->start - (int64_t)unit->count - 1);
 }
 
 /* Procedures */
 
-/* The code of a procedure goes to the machine. */
-static unsigned finish_unit(const Unit *unit, Symbol name, unsigned parameters, bool has_rest) {
-    const size_t entry = program.instruction_count;
-    for (size_t i = 0; i < unit->count; i++) machine_add_instruction(unit->instructions[i], unit->positions[i]);
-    return machine_add_code((Code){.entry = entry, .parameters = parameters, .has_rest = has_rest, .name = name});
-}
-
 /* The code of a procedure, and in the unit what it captures. */
 static unsigned compile_lambda(Unit *outer, Node *node, const Variable *self, Unit *unit) {
-    *unit = (Unit){.machine = outer->machine, .outer = outer, .self = self, .at = node->at};
-    for (unsigned i = 0; i < node->variable_count; i++) bind(unit, node->variables[i], take_register(unit, REGISTER_FIRST + i));
-    for (unsigned i = 0; i < node->variable_count; i++) bind_value(unit, node->variables[i], REGISTER_FIRST + i);
+    *unit = unit_begin(outer->machine, outer, self, node->at);
+    for (unsigned i = 0; i < node->variable_count; i++) bind(unit, node->variables[i], take_any(unit));
+    for (unsigned i = 0; i < node->variable_count; i++) bind_value(unit, node->variables[i], OWN_ARGUMENT + i);
     compile_to(unit, node->nodes[0], CALLER, 0);
-    return finish_unit(unit, node->name, node->variable_count - node->has_rest, node->has_rest);
+    return unit_end(unit, node->name, node->variable_count - node->has_rest, node->has_rest);
+}
+
+/* What a procedure captures, from some on, is put into it. */
+static void put_captured(Unit *unit, const Unit *inner, unsigned place) {
+    for (unsigned i = 0; i < inner->captured_count; i++) {
+        const Registers busy = unit->busy;
+        Variable *const variable = inner->captured[i];
+        unsigned source = place_of(unit, variable);
+        if (source == NOWHERE) load_variable(unit, variable, source = take_any(unit));
+        emit(unit, OP_CLOSURE_PUT, place, source, 0, i);
+        give_back(unit, busy);
+    }
 }
 
 /* A register becomes a procedure, whose captured values are still to be put into it. */
-static void make_closure(Unit *unit, const Unit *inner, unsigned code, unsigned place) {
+static void make_empty_closure(Unit *unit, const Unit *inner, unsigned code, unsigned place) {
     if (inner->captured_count) {
-        emit(unit, OP_CLOSURE, place, inner->captured_count, 0, code);
+        emit_with(unit, unit->busy, OP_CLOSURE, place, inner->captured_count, 0, code);
     } else {
         emit(unit, OP_WORD, place, 0, 0, (int64_t)machine_add_word(PLAIN(KIND_PROCEDURE, code)));
     }
 }
 
-static void put_captured(Unit *unit, const Unit *inner, unsigned place) {
-    const unsigned busy = unit->busy;
-    for (unsigned i = 0; i < inner->captured_count; i++) {
-        Variable *const variable = inner->captured[i];
-        unsigned source = place_of(unit, variable);
-        if (source == NOWHERE) load_variable(unit, variable, source = take_any(unit));
-        emit(unit, OP_CLOSURE_PUT, place, source, 0, i);
-        unit->busy = busy;
+/* Makes a procedure, at a place if it can be there. What it captures stands in registers first, if these are enough, so that it is made
+ * with it. Answers where it is. */
+static unsigned make_closure(Unit *unit, const Unit *inner, unsigned code, unsigned wanted) {
+    const Registers busy = unit->busy;
+    unsigned sources[WINDOW_REGISTERS], count = 0;
+    Registers read = 0;
+    for (; count < inner->captured_count && free_count(unit) > SPARE; count++) {
+        sources[count] = place_of(unit, inner->captured[count]);
+        if (sources[count] == NOWHERE) load_variable(unit, inner->captured[count], sources[count] = take_any(unit));
+        read |= bit(sources[count]);
     }
+    const bool is_whole = count == inner->captured_count;
+    if (!is_whole) give_back(unit, busy);
+    const unsigned place = is_whole && wanted != NOWHERE && !(read & bit(wanted)) ? wanted : take_any(unit);
+    make_empty_closure(unit, inner, code, place);
+    if (!is_whole) put_captured(unit, inner, place);
+    for (unsigned i = 0; i < count && is_whole; i++) emit(unit, OP_CLOSURE_PUT, place, sources[i], 0, i);
+    return place;
 }
 
 static void compile_closure(Unit *unit, Node *node, unsigned dest) {
-    const unsigned place = take_any(unit);
     Unit inner;
     const unsigned code = compile_lambda(unit, node, NULL, &inner);
     unit->at = node->at;
-    make_closure(unit, &inner, code, place);
-    put_captured(unit, &inner, place);
-    deliver(unit, dest, place);
+    deliver(unit, dest, make_closure(unit, &inner, code, written(unit, dest)));
 }
 
 /* An expression for which too few registers are left becomes a procedure, which is called at once. */
-static void compile_outside(Unit *unit, Node *node, unsigned dest, unsigned live) {
-    const unsigned needed = dest == CALLER ? 0 : live & ~bit(dest);
-    const unsigned place = take_any(unit);
+static void compile_outside(Unit *unit, Node *node, unsigned dest, Registers live) {
+    const unsigned first = take_any(unit);
     Node lambda = {.kind = NODE_LAMBDA, .at = node->at, .count = 1, .nodes = &node, .name = symbol_of("lambda", 6)};
     Unit inner;
-    size_t frame = 0;
     const unsigned code = compile_lambda(unit, &lambda, NULL, &inner);
     unit->at = node->at;
-    make_closure(unit, &inner, code, place);
-    put_captured(unit, &inner, place);
-    if (dest != CALLER) frame = emit(unit, OP_FRAME, written(dest), needed & 0xffu, needed >> 8, 0);
-    emit(unit, OP_MOVE, REGISTER_PROCEDURE, place, 0, 0);
-    emit(unit, OP_CALL, 0, 0, 0, 0);
-    if (dest != CALLER) unit->instructions[frame].n = (int32_t)(unit->count - frame - 1);
+    make_empty_closure(unit, &inner, code, first);
+    put_captured(unit, &inner, first);
+    if (dest == CALLER) {
+        emit(unit, OP_MOVE, OWN_PROCEDURE, first, 0, 0);
+        emit(unit, OP_TAIL_CALL, 0, 0, 0, 0);
+    } else {
+        emit_with(unit, live & ~bit(dest), OP_CALL, first, 0, 0, 0);
+        deliver(unit, dest, first);
+    }
 }
 
 /* Bindings */
 
 /* First values go to registers, one after another; what `behind` are needed then. */
-static void compile_values(Unit *unit, Node *node, unsigned count, unsigned behind, unsigned *places) {
+static void compile_values(Unit *unit, Node *node, unsigned count, Registers behind, unsigned *places) {
     for (unsigned i = 0; i < count; i++) {
-        unsigned needed = behind;
+        Registers needed = behind;
         for (unsigned k = 0; k < i; k++) needed |= bit(places[k]);
         for (unsigned k = i + 1; k < count; k++) needed |= registers_of(unit, node->nodes[k]);
         places[i] = take_any(unit);
@@ -578,10 +566,17 @@ static void compile_values(Unit *unit, Node *node, unsigned count, unsigned behi
     }
 }
 
+/* A variable that isn't assigned has a field of what a register has. */
+static void remember_variable(Unit *unit, const Node *node, const Variable *variable) {
+    if (!is_field(node) || variable->is_assigned) return;
+    const unsigned of = ready_operand(unit, node->nodes[0]);
+    if (of < WINDOW_REGISTERS) remember(unit, (Known){.op = node->primitive->op, .of = of, .place = variable->place});
+}
+
 /* Where the variables don't fit into registers together, they are bound one after another: each is another than those around. */
-static void compile_let(Unit *unit, Node *node, unsigned dest, unsigned live) {
+static void compile_let(Unit *unit, Node *node, unsigned dest, Registers live) {
     const unsigned count = node->variable_count;
-    unsigned places[REGISTERS];
+    unsigned places[WINDOW_REGISTERS];
     if (count > 1 && free_count(unit) < count + SPARE) {
         Node rest = *node;
         rest.nodes++;
@@ -598,16 +593,37 @@ static void compile_let(Unit *unit, Node *node, unsigned dest, unsigned live) {
     }
     compile_values(unit, node, count, live | registers_of(unit, node->nodes[count]), places);
     for (unsigned i = 0; i < count; i++) bind_value(unit, node->variables[i], places[i]);
+    for (unsigned i = 0; i < count; i++) remember_variable(unit, node->nodes[i], node->variables[i]);
     compile_to(unit, node->nodes[count], dest, live);
 }
 
-/* Procedures that may refer to each other: all are made, and then what they capture is put into them. */
+/* Whether a procedure captures one of some variables. */
+static bool captures_one_of(const Unit *inner, Variable *const *variables, unsigned from, unsigned to) {
+    for (unsigned i = 0; i < inner->captured_count; i++) {
+        for (unsigned k = from; k < to; k++) {
+            if (inner->captured[i] == variables[k]) return true;
+        }
+    }
+    return false;
+}
+
+/* Procedures that may refer to each other. Where one captures itself or what comes behind, that is put into it once all are made. */
 static void compile_procedures(Unit *unit, Node *node, unsigned from, unsigned to) {
     Unit inner[LETREC_REGISTERS];
     unsigned codes[LETREC_REGISTERS];
     for (unsigned i = from; i < to; i++) bind(unit, node->variables[i], take_any(unit));
     for (unsigned i = from; i < to; i++) codes[i - from] = compile_lambda(unit, node->nodes[i], node->variables[i], &inner[i - from]);
-    for (unsigned i = from; i < to; i++) make_closure(unit, &inner[i - from], codes[i - from], node->variables[i]->place);
+    for (unsigned i = from; i < to; i++) {
+        const Registers busy = unit->busy;
+        const unsigned place = node->variables[i]->place;
+        if (captures_one_of(&inner[i - from], node->variables, i, to) || free_count(unit) < inner[i - from].captured_count + SPARE) {
+            make_empty_closure(unit, &inner[i - from], codes[i - from], place);
+        } else {
+            make_closure(unit, &inner[i - from], codes[i - from], place);
+            inner[i - from].captured_count = 0;
+        }
+        give_back(unit, busy);
+    }
     for (unsigned i = from; i < to; i++) put_captured(unit, &inner[i - from], node->variables[i]->place);
 }
 
@@ -616,40 +632,39 @@ static bool is_procedure(const Node *node, unsigned which) {
 }
 
 /* What a letrec needs after one of its first values. */
-static unsigned needed_behind(const Unit *unit, const Node *node, unsigned which, unsigned live) {
+static Registers needed_behind(const Unit *unit, const Node *node, unsigned which, Registers live) {
     for (unsigned i = which + 1; i < node->count; i++) live |= registers_of(unit, node->nodes[i]);
     return live;
 }
 
-static void compile_slot_value(Unit *unit, Node *node, unsigned which, unsigned live) {
-    const unsigned busy = unit->busy;
+static void compile_slot_value(Unit *unit, Node *node, unsigned which, Registers live) {
+    const Registers busy = unit->busy;
     const Variable *const variable = node->variables[which];
     unsigned slots = place_of(unit, variable->slots), place;
     if (node->nodes[which]->kind == NODE_LAMBDA) {
         Unit inner;
         const unsigned code = compile_lambda(unit, node->nodes[which], variable->is_assigned ? NULL : variable, &inner);
-        make_closure(unit, &inner, code, place = take_any(unit));
-        put_captured(unit, &inner, place);
+        place = make_closure(unit, &inner, code, NOWHERE);
     } else {
         place = operand(unit, node->nodes[which], needed_behind(unit, node, which, live) | bit(slots));
     }
-    emit(unit, OP_SLOT_SET, slots, place, 0, variable->slot);
-    unit->busy = busy;
+    emit_with(unit, needed_behind(unit, node, which, live) | bit(slots) | bit(place), OP_SLOT_SET, slots, place, 0, variable->slot);
+    give_back(unit, busy);
 }
 
-static void compile_letrec(Unit *unit, Node *node, unsigned dest, unsigned live) {
+static void compile_letrec(Unit *unit, Node *node, unsigned dest, Registers live) {
     const unsigned count = node->variable_count;
     const bool are_slots = count > LETREC_REGISTERS || free_count(unit) < count + SPARE;
     if (count > FIELDS_MOST) fault(node->at, "more than %d definitions in one body", FIELDS_MOST);
     if (are_slots) {
         const unsigned place = take_any(unit);
-        emit(unit, OP_SLOTS, place, 0, 0, count);
+        emit_with(unit, unit->busy, OP_SLOTS, place, 0, 0, count);
         bind_slots(unit, node->variables, count, place);
     }
     for (unsigned i = 0; i < count && !are_slots; i++) {
         if (!node->variables[i]->is_assigned) continue;
         const unsigned place = take_any(unit);
-        emit(unit, OP_SLOTS, place, 0, 0, 1);
+        emit_with(unit, unit->busy, OP_SLOTS, place, 0, 0, 1);
         bind_slots(unit, &node->variables[i], 1, place);
     }
     for (unsigned i = 0; i < count; i++) {
@@ -689,7 +704,7 @@ static bool fits(const Node *node, unsigned left) {
 }
 
 /* A loop that is a procedure: it is bound, and called with the first values. */
-static void compile_loop_procedure(Unit *unit, Node *node, unsigned dest, unsigned live) {
+static void compile_loop_procedure(Unit *unit, Node *node, unsigned dest, Registers live) {
     const unsigned count = node->count - 1;
     Node procedure = {.kind = NODE_LOCAL, .at = node->at, .variable = node->loop->variable};
     Node *parts[MOVES_MOST] = {&procedure};
@@ -702,7 +717,25 @@ static void compile_loop_procedure(Unit *unit, Node *node, unsigned dest, unsign
     compile_to(unit, &letrec, dest, live);
 }
 
-static void compile_loop(Unit *unit, Node *node, unsigned dest, unsigned live) {
+/* Captured variables that a loop reads itself stand in registers while it runs, where there are enough. */
+static void copy_captured(Unit *unit, Node *node, Node *body) {
+    if (node->kind == NODE_LAMBDA) return;
+    if (node->variable) {
+        Variable *const variable = node->variable->slots ? node->variable->slots : node->variable;
+        const bool is_captured = variable->owner && variable->owner != unit && place_of(unit, variable) == NOWHERE;
+        if (is_captured && unit->copy_count < COPIES_MOST && free_count(unit) > PLENTY && fits(body, free_count(unit) - 1)) {
+            const unsigned place = take_any(unit);
+            load_variable(unit, variable, place);
+            unit->copies[unit->copy_count++] = (Copy){.variable = variable, .place = place};
+        }
+    }
+    for (unsigned i = 0; i < node->count; i++) {
+        Node *const inner = node->nodes[i];
+        copy_captured(unit, node->kind == NODE_LOOP && i + 1 == node->count ? inner->nodes[0] : inner, body);
+    }
+}
+
+static void compile_loop(Unit *unit, Node *node, unsigned dest, Registers live) {
     Loop *const loop = node->loop;
     Node *const lambda = node->nodes[node->count - 1];
     const unsigned count = node->count - 1;
@@ -711,21 +744,26 @@ static void compile_loop(Unit *unit, Node *node, unsigned dest, unsigned live) {
         compile_loop_procedure(unit, node, dest, live);
         return;
     }
-    loop->live = (dest == CALLER ? 0 : live & ~bit(dest)) | registers_of(unit, lambda);
-    compile_values(unit, node, count, loop->live, loop->places);
+    const unsigned copies = unit->copy_count;
+    const Registers after = dest == CALLER ? 0 : live & ~bit(dest);
+    compile_values(unit, node, count, after | registers_of(unit, lambda), loop->places);
     for (unsigned i = 0; i < count; i++) bind(unit, lambda->variables[i], loop->places[i]);
+    copy_captured(unit, lambda->nodes[0], lambda->nodes[0]);
+    loop->live = after | (registers_of(unit, lambda) & ~places_of(loop, count));
+    forget_all(unit);
     loop->is_open = true;
     loop->start = unit->count;
     for (unsigned i = 0; i < count; i++) bind_value(unit, lambda->variables[i], loop->places[i]);
     compile_to(unit, lambda->nodes[0], dest, loop->live);
     loop->is_open = false;
+    unit->copy_count = copies;
 }
 
 /* Expressions */
 
-static void compile_sequence(Unit *unit, Node *node, unsigned dest, unsigned live) {
+static void compile_sequence(Unit *unit, Node *node, unsigned dest, Registers live) {
     for (unsigned i = 0; i + 1 < node->count; i++) {
-        unsigned needed = live;
+        Registers needed = live;
         for (unsigned k = i + 1; k < node->count; k++) needed |= registers_of(unit, node->nodes[k]);
         compile_to(unit, node->nodes[i], NOWHERE, needed);
     }
@@ -733,31 +771,31 @@ static void compile_sequence(Unit *unit, Node *node, unsigned dest, unsigned liv
 }
 
 static void compile_table(Unit *unit, const Node *node, unsigned dest) {
-    emit(unit, OP_TABLE_GET, written(dest), 0, 0, node->entry);
-    deliver(unit, dest, written(dest));
+    const unsigned place = written(unit, dest);
+    emit(unit, OP_TABLE_GET, place, 0, 0, node->entry);
+    deliver(unit, dest, place);
 }
 
-static void compile_set_table(Unit *unit, const Node *node, unsigned dest, unsigned live) {
+static void compile_set_table(Unit *unit, const Node *node, unsigned dest, Registers live) {
     const unsigned place = operand(unit, node->nodes[0], live);
     unit->at = node->at;
-    if (!node->defines) emit(unit, OP_TABLE_GET, REGISTER_SCRATCH, 0, 0, node->entry);
-    emit(unit, OP_TABLE_SET, place, 0, 0, node->entry);
+    emit_with(unit, live | bit(place), OP_TABLE_SET, place, !node->defines, 0, node->entry);
     deliver_word(unit, dest, UNSPECIFIED);
 }
 
 static void compile_local(Unit *unit, const Node *node, unsigned dest) {
-    unsigned place = place_of(unit, node->variable);
-    if (place == NOWHERE) load_variable(unit, node->variable, place = written(dest));
+    unsigned place = ready_operand(unit, node);
+    if (place == NOWHERE) load_variable(unit, node->variable, place = written(unit, dest));
     deliver(unit, dest, place);
 }
 
-static void compile_set_local(Unit *unit, const Node *node, unsigned dest, unsigned live) {
+static void compile_set_local(Unit *unit, const Node *node, unsigned dest, Registers live) {
     Variable *const slots = node->variable->slots;
     const unsigned place = operand(unit, node->nodes[0], live | live_variable(unit, slots));
     unsigned of = place_of(unit, slots);
     unit->at = node->at;
     if (of == NOWHERE) load_variable(unit, slots, of = take_any(unit));
-    emit(unit, OP_SLOT_SET, of, place, 0, node->variable->slot);
+    emit_with(unit, live | bit(of) | bit(place), OP_SLOT_SET, of, place, 0, node->variable->slot);
     deliver_word(unit, dest, UNSPECIFIED);
 }
 
@@ -782,7 +820,7 @@ static unsigned wanted_by_test(const Unit *unit, Node *node) {
         }
         return most;
     }
-    if (node->kind == NODE_PRIMITIVE && node->primitive->shape == SHAPE_TEST) return wanted_by_all(unit, node->nodes, node->count);
+    if (is_test(node)) return wanted_by_all(unit, node->nodes, node->count);
     return wanted_by_all(unit, &node, 1);
 }
 
@@ -790,12 +828,12 @@ static unsigned wanted_by_test(const Unit *unit, Node *node) {
 static unsigned wanted_registers(const Unit *unit, Node *node) {
     switch (node->kind) {
     case NODE_IF: return wanted_by_test(unit, node->nodes[0]);
+    case NODE_OR: return wanted_by_test(unit, node);
     case NODE_PRIMITIVE:
-        if (node->primitive->shape == SHAPE_TEST) return wanted_by_test(unit, node);
+        if (is_test(node)) return wanted_by_test(unit, node);
         return wanted_by_all(unit, node->nodes, node->count);
     case NODE_CALL:
-    case NODE_APPLY:
-    case NODE_OR:
+    case NODE_APPLY: return node->count + 1 + OUTSIDE;
     case NODE_SET_TABLE: return wanted_by_all(unit, node->nodes, node->count);
     case NODE_SET_LOCAL: return 1 + wanted_by_all(unit, node->nodes, node->count);
     case NODE_LIST: return SPARE + OUTSIDE;
@@ -807,7 +845,7 @@ static unsigned wanted_registers(const Unit *unit, Node *node) {
     }
 }
 
-static void compile_node(Unit *unit, Node *node, unsigned dest, unsigned live) {
+static void compile_node(Unit *unit, Node *node, unsigned dest, Registers live) {
     switch (node->kind) {
     case NODE_WORD: deliver_word(unit, dest, node->word); break;
     case NODE_TABLE: compile_table(unit, node, dest); break;
@@ -819,12 +857,12 @@ static void compile_node(Unit *unit, Node *node, unsigned dest, unsigned live) {
     case NODE_SEQUENCE: compile_sequence(unit, node, dest, live); break;
     case NODE_PRIMITIVE: compile_primitive(unit, node, dest, live); break;
     case NODE_LIST: compile_list(unit, node, dest, live); break;
-    case NODE_APPLY: compile_call(unit, node, dest, live); break;
+    case NODE_APPLY: compile_any_call(unit, node, dest, live); break;
     case NODE_CALL:
         if (node->loop && node->loop->is_open) {
             compile_again(unit, node);
         } else {
-            compile_call(unit, node, dest, live);
+            compile_any_call(unit, node, dest, live);
         }
         break;
     case NODE_LAMBDA: compile_closure(unit, node, dest); break;
@@ -835,19 +873,20 @@ static void compile_node(Unit *unit, Node *node, unsigned dest, unsigned live) {
 }
 
 /* The value of a node goes to a destination; the live registers are as they were then, but for the destination. */
-static void compile_to(Unit *unit, Node *node, unsigned dest, unsigned live) {
-    const unsigned busy = unit->busy;
+static void compile_to(Unit *unit, Node *node, unsigned dest, Registers live) {
+    const Registers busy = unit->busy;
     unit->at = node->at;
-    if (free_count(unit) < wanted_registers(unit, node) && !(node->loop && node->loop->is_open)) {
+    const unsigned wanted = wanted_registers(unit, node) + (dest == NOWHERE);
+    if (free_count(unit) < wanted && !(node->loop && node->loop->is_open)) {
         compile_outside(unit, node, dest, live);
     } else {
         compile_node(unit, node, dest, live);
     }
-    unit->busy = busy;
+    give_back(unit, busy);
 }
 
 unsigned compile(Machine *machine, Node *node) {
-    Unit unit = {.machine = machine, .at = node->at};
+    Unit unit = unit_begin(machine, NULL, NULL, node->at);
     compile_to(&unit, node, CALLER, 0);
-    return finish_unit(&unit, symbol_of("program", 7), 0, false);
+    return unit_end(&unit, symbol_of("program", 7), 0, false);
 }

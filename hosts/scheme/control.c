@@ -24,7 +24,7 @@ static void retell(Machine *machine, unsigned dest, unsigned source, Word word) 
     }
     memory_move(dest, REGISTER_NIL);
     memory_nil(REGISTER_NIL);
-    machine_hold(machine, dest, word);
+    machine_set(machine, dest, word);
 }
 
 void values_of_list(Machine *machine, unsigned dest, unsigned list) {

@@ -26,6 +26,11 @@ void fault_ends_by(void (*end)(void));
 void fault_begin(Position at);
 __attribute__((noreturn)) void fault_end(void);
 
+#ifdef THREADS
+/* Other threads tell no fault from here on. One that tells one now ends the program first. */
+void fault_no_more(void);
+#endif
+
 /* Tells a fault in one line, and goes to `fault_exit`. */
 __attribute__((noreturn, format(printf, 2, 3))) void fault(Position at, const char *format, ...);
 

@@ -30,10 +30,7 @@ static inline void machine_head(unsigned base, Word word) {
 static inline void machine_load(Machine *machine, unsigned dest, unsigned base, unsigned field) {
     const Word word = memory_get(base, field);
     machine->word[dest] = word;
-    if (is_reference(word)) {
-        memory_load(dest, base, field);
-        machine->holding |= 1u << dest;
-    }
+    if (is_reference(word)) memory_load(dest, base, field);
 }
 
 /* The same of a field that is never changed. */
@@ -60,7 +57,7 @@ static inline void machine_store(Machine *machine, unsigned base, unsigned field
 /* A register becomes a new object whose fields are what registers hold. `sources` and `data` are those of machine_source, and words. */
 static inline void machine_make(Machine *machine, unsigned dest, Word word, const uint32_t *sources, const Word *data, size_t count) {
     machine_new_with(machine, dest, sources, count, data, count);
-    machine_hold(machine, dest, word);
+    machine_set(machine, dest, word);
 }
 
 #else
@@ -78,10 +75,7 @@ static inline Word head_value(Word head) { return !head ? PAIR : head == BOXED_Z
 static inline void machine_load_fixed(Machine *machine, unsigned dest, unsigned base, unsigned field) {
     const Word word = memory_get(base, field + HEAD_WORDS);
     machine->word[dest] = word;
-    if (is_reference(word)) {
-        memory_load(dest, base, field);
-        machine->holding |= 1u << dest;
-    }
+    if (is_reference(word)) memory_load(dest, base, field);
 }
 
 /* A register, which holds what a field refers to, becomes the value that this says it is. Whether it holds something. */
@@ -89,7 +83,6 @@ static inline bool machine_believe(Machine *machine, unsigned dest) {
     Word head;
     if (!memory_first(dest, &head)) return false;
     machine->word[dest] = head_value(head);
-    machine->holding |= 1u << dest;
     return true;
 }
 
@@ -110,9 +103,7 @@ static inline void machine_load(Machine *machine, unsigned dest, unsigned base, 
     memory_load(dest, base, field);
     word = memory_get(base, field + HEAD_WORDS);
     machine->word[dest] = word;
-    if (is_reference(word)) {
-        machine->holding |= 1u << dest;
-    } else if (word == CHANGED && !machine_believe(machine, dest)) { /* it became a reference in between */
+    if (word == CHANGED && !machine_believe(machine, dest)) { /* it became a reference in between */
         memory_load(dest, base, field);
         machine_believe(machine, dest);
     }
@@ -155,7 +146,7 @@ static inline void machine_make(Machine *machine, unsigned dest, Word word, cons
         if (data[i]) memory_put(dest, (unsigned)i + HEAD_WORDS, data[i]);
         if (is_reference(data[i])) memory_store(dest, (unsigned)i, sources[i]);
     }
-    machine_hold(machine, dest, word);
+    machine_set(machine, dest, word);
 }
 
 #endif
@@ -172,7 +163,7 @@ static inline void machine_begin(const Machine *machine, unsigned base, unsigned
 static inline void machine_make_empty(Machine *machine, unsigned dest, Word word, unsigned fields) {
     machine_new(machine, dest, fields, fields + HEAD_WORDS);
     machine_head(dest, word);
-    machine_hold(machine, dest, word);
+    machine_set(machine, dest, word);
 }
 
 #endif

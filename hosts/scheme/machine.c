@@ -3,6 +3,7 @@
  */
 #include "machine.h"
 #include "primitives.h"
+#include "stack.h"
 #include "table.h"
 #include <stdarg.h>
 #include <stdlib.h>
@@ -10,9 +11,8 @@
 
 Program program;
 
-/* Word 0 of a frame: where to go on, which registers stand behind it, and which one gets the result. Its last reference is the frame
- * before: a return loads it into the frame's own register, behind all others. */
-enum { FRAME_REGISTERS_SHIFT = 32, FRAME_RESULT_SHIFT = 48 };
+/* What begins all others: a form, which is called without arguments, or with one, and then halts. */
+enum { START_FORM = 0, START_WITH_ARGUMENT = 2 };
 
 /* Arrays that have become others, and are kept for threads that read there: each begins with the one before. */
 static void **outgrown;
@@ -64,9 +64,9 @@ static void free_outgrown(void) {
     } while (0)
 
 Position machine_position(const Machine *machine) {
-    const Position *const positions = PUBLISHED(program.positions);
-    const Position at = positions[machine->at];
-    return at.line ? at : positions[machine->called_at];
+    const Site *const sites = PUBLISHED(program.sites);
+    const Position at = sites[machine->at].at;
+    return at.line ? at : sites[machine->called_at].at;
 }
 
 /* The word of the dynamic state. */
@@ -91,12 +91,12 @@ void machine_fault(const Machine *machine, const char *format, ...) {
 
 void machine_full(const Machine *machine) { fault(machine_position(machine), "the heap is full"); }
 
-size_t machine_add_instruction(Instruction instruction, Position at) {
+size_t machine_add_instruction(Instruction instruction, Site site) {
     size_t room = program.instruction_room;
-    GROW(program.positions, program.instruction_count, room, 4096); /* before the instructions: none is without a position */
+    GROW(program.sites, program.instruction_count, room, 4096); /* before the instructions: none is without a site */
     GROW(program.instructions, program.instruction_count, program.instruction_room, 4096);
     program.instructions[program.instruction_count] = instruction;
-    program.positions[program.instruction_count] = at;
+    program.sites[program.instruction_count] = site;
     return program.instruction_count++;
 }
 
@@ -118,36 +118,48 @@ unsigned machine_add_record(RecordType type) {
     return (unsigned)program.record_count++;
 }
 
-/* Operands stay as they are once there are several threads. */
+/* Constants stay as they are once there are several threads. */
 unsigned machine_constant(Machine *machine, Word word) {
-    for (unsigned i = REGISTERS; i < machine->operands; i++) {
-        if (machine->word[i] == word) return i;
+    for (unsigned i = 0; i < machine->constants; i++) {
+        if (machine->word[REGISTERS + i] == word) return WINDOW_REGISTERS + i;
     }
-    if (machine->operands == OPERANDS || program.is_shared) return 0;
-    machine->word[machine->operands] = word;
-    return machine->operands++;
+    if (machine->constants == CONSTANTS || program.is_shared) return 0;
+    machine->word[REGISTERS + machine->constants] = word;
+    return WINDOW_REGISTERS + machine->constants++;
 }
 
 static void table_get(Machine *machine, unsigned dest, unsigned entry) {
     if (!machine_get_entry(machine, dest, entry)) machine_fault(machine, "%s isn't defined", symbol_name(program.table_names[entry]));
 }
 
-void machine_open(Machine *machine, unsigned threads) {
+static void want_entry(const Machine *machine, unsigned entry) {
+    if (!machine_is_defined(entry)) machine_fault(machine, "%s isn't defined", symbol_name(program.table_names[entry]));
+}
+
+/* The first instructions call what stands behind the window's first register, and end. */
+static void add_start(unsigned arguments) {
+    const Site nowhere = {.at = {0}};
+    machine_add_instruction((Instruction){.op = OP_CALL, .a = 1, .b = (uint8_t)arguments}, nowhere);
+    machine_add_instruction((Instruction){.op = OP_HALT}, nowhere);
+}
+
+void machine_open(Machine *machine, unsigned threads, unsigned registers) {
     static Trouble trouble;
-    *machine = (Machine){.operands = REGISTERS, .output = stdout, .exit_status = -1, .trouble = &trouble};
+    *machine = (Machine){.window = REGISTER_FIRST, .output = stdout, .exit_status = -1, .trouble = &trouble};
+    machine->end = registers - STACK_SPARE;
 #ifdef THREADS
     machine_open_directory(threads + 1);
 #else
     (void)threads;
     if (!memory_new(REGISTER_TABLE, OBJECT_MOST, 0)) fault((Position){0}, "the heap is full");
 #endif
-    const Instruction halt = {.op = OP_HALT};
-    machine_add_instruction(halt, (Position){0});
+    add_start(0);
+    add_start(1);
 }
 
 void machine_close(Machine *machine) {
     free_array(program.instructions);
-    free_array(program.positions);
+    free_array(program.sites);
     free_array(program.codes);
     free_array(program.records);
     free_array(program.words);
@@ -176,68 +188,36 @@ void machine_store_boxed(const Machine *machine, unsigned base, unsigned field, 
 
 #endif
 
-/* A call begins: what is needed after it goes into a frame. */
-static void push_frame(Machine *machine, uint64_t resume, unsigned needed, unsigned result) {
-    uint32_t sources[REGISTERS];
-    Word data[REGISTERS + 1];
-    size_t references = 0, words = 0;
-    data[words++] = resume | (uint64_t)needed << FRAME_REGISTERS_SHIFT | (uint64_t)result << FRAME_RESULT_SHIFT;
-    for (unsigned left = needed; left; left &= left - 1) {
-        const unsigned saved = (unsigned)__builtin_ctz(left);
-        data[words++] = machine->word[saved];
-        if (is_reference(machine->word[saved])) sources[references++] = saved;
-    }
-    sources[references++] = REGISTER_FRAME;
-    machine_new_with(machine, REGISTER_SCRATCH, sources, references, data, words);
-    memory_move(REGISTER_FRAME, REGISTER_SCRATCH);
-    machine->holding |= 1u << REGISTER_SCRATCH;
+static void make_pair(Machine *machine, unsigned dest, unsigned first, unsigned second) {
+    const bool is_direct = dest != first && dest != second;
+    const unsigned pair = is_direct ? dest : REGISTER_SCRATCH;
+    const uint32_t sources[] = {machine_source(machine, first), machine_source(machine, second)};
+    const Word data[] = {machine->word[first], machine->word[second]};
+    machine_make(machine, pair, PAIR, sources, data, 2);
+    if (!is_direct) machine_move(machine, dest, pair);
 }
 
-/* A call ends with what a register holds: its frame's registers are as they were. Answers where to go on. */
-static uint32_t pop_frame(Machine *machine, unsigned source) {
-    const uint64_t word = memory_get(REGISTER_FRAME, 0);
-    const unsigned saved_registers = (unsigned)(word >> FRAME_REGISTERS_SHIFT) & 0xffffu;
-    uint32_t loaded[REGISTERS];
-    Word data[REGISTERS];
-    size_t references = 0, words = 0;
-    machine_move(machine, REGISTER_SCRATCH, source);
-    if (saved_registers) memory_get_many(REGISTER_FRAME, 1, data, (size_t)__builtin_popcount(saved_registers));
-    for (unsigned left = saved_registers; left; left &= left - 1) {
-        const unsigned saved = (unsigned)__builtin_ctz(left);
-        machine->word[saved] = data[words++];
-        if (!is_reference(machine->word[saved])) continue;
-        loaded[references++] = saved;
-        machine->holding |= 1u << saved;
+/* What a register holds is returned where a continuation says. */
+static size_t resume(Machine *machine, unsigned continuation, unsigned source) {
+    if (machine->word[continuation] == CONTINUATION) {
+        memory_move(REGISTER_FRAME, continuation);
+    } else {
+        memory_load(REGISTER_FRAME, continuation, 0);
     }
-    loaded[references++] = REGISTER_FRAME;
-    memory_load_many(REGISTER_FRAME, 0, loaded, references);
-    machine_move(machine, (unsigned)(word >> FRAME_RESULT_SHIFT), REGISTER_SCRATCH);
-    return (uint32_t)word;
+    machine->depth = 0;
+    return stack_return_to_frame(machine, source);
 }
 
-/* Arguments from some parameter on become a list, which is the rest parameter. */
+/* Arguments from some parameter on become a list, which is the rest parameter. It is made from its end on, one register behind its items.
+ */
 static void collect_rest(Machine *machine, unsigned parameters, unsigned arguments) {
-    machine_set(machine, REGISTER_SCRATCH, EMPTY_LIST);
-    for (unsigned i = arguments; i > parameters; i--) {
-        machine_new(machine, REGISTER_NIL, 2, 2 + HEAD_WORDS); /* is nil again below */
-        machine_begin(machine, REGISTER_NIL, 0, REGISTER_FIRST + i - 1);
-        machine_begin(machine, REGISTER_NIL, 1, REGISTER_SCRATCH);
-        memory_move(REGISTER_SCRATCH, REGISTER_NIL);
-        machine_hold(machine, REGISTER_SCRATCH, PAIR);
-    }
-    memory_nil(REGISTER_NIL);
-    machine_move(machine, REGISTER_FIRST + parameters, REGISTER_SCRATCH);
-}
-
-/* A procedure begins: registers let go of all but itself and its arguments. */
-static void forget_others(Machine *machine, unsigned arguments) {
-    const unsigned kept = (((1u << arguments) - 1) << REGISTER_FIRST) | 1u << REGISTER_PROCEDURE;
-    for (unsigned left = machine->holding; left; left &= left - 1) {
-        const unsigned held = (unsigned)__builtin_ctz(left);
-        if (kept >> held & 1 && is_reference(machine->word[held])) continue;
-        memory_nil(held);
-        machine->holding &= ~(1u << held);
-    }
+    const unsigned first = machine->window + OWN_ARGUMENT;
+    machine->begins = OWN_ARGUMENT + arguments + 2;
+    machine_set(machine, first + arguments, EMPTY_LIST);
+    machine_set(machine, first + arguments + 1, EMPTY_LIST);
+    if (memory_is_due()) stack_pause(machine);
+    for (unsigned i = arguments; i > parameters; i--) make_pair(machine, first + i, first + i - 1, first + i + 1);
+    machine_move(machine, first + parameters, first + parameters + 1);
 }
 
 __attribute__((noreturn)) static void fault_arguments(const Machine *machine, const Code *code, unsigned arguments) {
@@ -250,87 +230,94 @@ __attribute__((noreturn)) static void fault_procedure(const Machine *machine) {
         [KIND_INTEGER] = "an integer",    [KIND_CONSTANT] = "a constant", [KIND_CHARACTER] = "a character", [KIND_SYMBOL] = "a symbol",
         [KIND_PAIR] = "a pair",           [KIND_VECTOR] = "a vector",     [KIND_STRING] = "a string",       [KIND_RECORD] = "a record",
         [KIND_VALUES] = "several values", [KIND_PORT] = "a port",         [KIND_REAL] = "a number"};
-    machine_fault(machine, "%s was called, which is no procedure", what[kind_of(machine->word[REGISTER_PROCEDURE])]);
+    machine_fault(machine, "%s was called, which is no procedure", what[kind_of(machine->word[machine->window + OWN_PROCEDURE])]);
 }
 
 static size_t call(Machine *machine, unsigned arguments);
 
 /* A continuation gets a value. Where it leaves dynamic states or enters some, the prelude does what is to be done on the way. */
 static size_t go_on(Machine *machine) {
-    if (state_word(machine) == EMPTY_LIST) {
-        const bool has_no_state = HEAD_WORDS && memory_get(REGISTER_PROCEDURE, 1 + HEAD_WORDS) == EMPTY_LIST;
-        if (machine->word[REGISTER_PROCEDURE] == CONTINUATION) {
-            memory_move(REGISTER_FRAME, REGISTER_PROCEDURE);
-            return pop_frame(machine, REGISTER_FIRST);
-        }
-        if (has_no_state) {
-            memory_load(REGISTER_FRAME, REGISTER_PROCEDURE, 0);
-            return pop_frame(machine, REGISTER_FIRST);
-        }
+    const unsigned continuation = machine->window + OWN_PROCEDURE, value = machine->window + OWN_ARGUMENT;
+    const bool is_frame = machine->word[continuation] == CONTINUATION;
+    if (state_word(machine) == EMPTY_LIST && (is_frame || (HEAD_WORDS && memory_get(continuation, 1 + HEAD_WORDS) == EMPTY_LIST))) {
+        return resume(machine, continuation, value);
     }
-    machine_move(machine, REGISTER_FIRST + 1, REGISTER_FIRST);
-    machine_move(machine, REGISTER_FIRST, REGISTER_PROCEDURE);
-    table_get(machine, REGISTER_PROCEDURE, program.go_on);
+    machine_move(machine, value + 1, value);
+    machine_move(machine, value, continuation);
+    table_get(machine, continuation, program.go_on);
     return call(machine, 2);
 }
 
-/* Calls the procedure with arguments in the first registers. Answers where to go on. */
-static size_t call(Machine *machine, unsigned arguments) {
-    const Word procedure = machine->word[REGISTER_PROCEDURE];
-    if (kind_of(procedure) == KIND_PROCEDURE) {
-        const Code *const code = &PUBLISHED(program.codes)[payload(procedure)];
-        if (code->has_rest && arguments >= code->parameters) {
-            collect_rest(machine, code->parameters, arguments);
-            arguments = code->parameters + 1;
-        } else if (arguments != code->parameters || code->has_rest) {
-            fault_arguments(machine, code, arguments);
+/* A procedure begins whose arguments aren't just as many as its parameters, or for whose window there is no room. */
+__attribute__((noinline)) static size_t call_otherwise(Machine *machine, unsigned arguments) {
+    const Word procedure = machine->word[machine->window + OWN_PROCEDURE];
+    if (kind_of(procedure) != KIND_PROCEDURE && kind_of(procedure) != KIND_CONTINUATION) fault_procedure(machine);
+    if (kind_of(procedure) == KIND_CONTINUATION) {
+        if (arguments != 1) {
+            collect_rest(machine, 0, arguments);
+            values_of_list(machine, machine->window + OWN_ARGUMENT, machine->window + OWN_ARGUMENT);
         }
-        forget_others(machine, arguments);
-        return code->entry;
+        machine->begins = 0;
+        return go_on(machine);
     }
-    if (kind_of(procedure) != KIND_CONTINUATION) fault_procedure(machine);
-    if (arguments != 1) {
-        collect_rest(machine, 0, arguments);
-        values_of_list(machine, REGISTER_FIRST, REGISTER_FIRST);
+    const Code *code = &PUBLISHED(program.codes)[payload(procedure)];
+    if (code->otherwise) {
+        const Code *const other = &PUBLISHED(program.codes)[code->otherwise];
+        if (other->parameters == arguments) code = other;
     }
-    return go_on(machine);
+    if (code->has_rest && arguments >= code->parameters) {
+        collect_rest(machine, code->parameters, arguments);
+        arguments = code->parameters + 1;
+    } else if (arguments != code->parameters || code->has_rest) {
+        fault_arguments(machine, code, arguments);
+    }
+    if (machine->window + code->registers > machine->end) stack_make_room(machine, OWN_ARGUMENT + arguments);
+    machine->begins = 0;
+    return code->entry;
 }
 
-/* Puts the items of a list into the first registers, as far as there are parameters; what is left is the rest parameter. */
+/* The procedure that the window begins with gets the arguments that stand behind it. Answers where to go on. */
+static inline size_t call(Machine *machine, unsigned arguments) {
+    const Word procedure = machine->word[machine->window + OWN_PROCEDURE];
+    if (kind_of(procedure) == KIND_PROCEDURE) {
+        const Code *const code = &PUBLISHED(program.codes)[payload(procedure)];
+        const bool fits = machine->window + code->registers <= machine->end;
+        if (arguments == code->parameters && !code->has_rest && fits) return code->entry;
+    }
+    return call_otherwise(machine, arguments);
+}
+
+/* Puts the items of a list where arguments stand, as far as there are parameters; what is left is the rest parameter. */
 static void spread_list(Machine *machine, const Code *code) {
-    machine_move(machine, REGISTER_SCRATCH, REGISTER_FIRST);
+    const unsigned first = machine->window + OWN_ARGUMENT;
+    machine_move(machine, REGISTER_SCRATCH, first);
     for (unsigned i = 0; i < code->parameters; i++) {
         if (machine->word[REGISTER_SCRATCH] != PAIR) fault_arguments(machine, code, i);
-        machine_load(machine, REGISTER_FIRST + i, REGISTER_SCRATCH, 0);
+        machine_load(machine, first + i, REGISTER_SCRATCH, 0);
         machine_load(machine, REGISTER_SCRATCH, REGISTER_SCRATCH, 1);
     }
     if (code->has_rest) {
-        machine_move(machine, REGISTER_FIRST + code->parameters, REGISTER_SCRATCH);
+        machine_move(machine, first + code->parameters, REGISTER_SCRATCH);
     } else if (machine->word[REGISTER_SCRATCH] == PAIR) {
         fault_arguments(machine, code, code->parameters + 1);
     }
 }
 
-/* Calls the procedure with a list of arguments. Answers where to go on. */
+/* As a call, where a list of the arguments stands behind the procedure. */
 static size_t apply(Machine *machine) {
-    const Word procedure = machine->word[REGISTER_PROCEDURE];
+    const Word procedure = machine->word[machine->window + OWN_PROCEDURE];
     if (kind_of(procedure) != KIND_PROCEDURE) {
-        if (kind_of(procedure) == KIND_CONTINUATION) values_of_list(machine, REGISTER_FIRST, REGISTER_FIRST);
+        machine->begins = OWN_ARGUMENT + 1;
+        if (kind_of(procedure) == KIND_CONTINUATION) {
+            values_of_list(machine, machine->window + OWN_ARGUMENT, machine->window + OWN_ARGUMENT);
+        }
+        machine->begins = 0;
         return call(machine, 1);
     }
     const Code *const code = &PUBLISHED(program.codes)[payload(procedure)];
+    if (machine->window + code->registers > machine->end) stack_make_room(machine, OWN_ARGUMENT + 1);
     spread_list(machine, code);
-    forget_others(machine, code->parameters + code->has_rest);
     return code->entry;
-}
-
-static void make_pair(Machine *machine, unsigned dest, unsigned first, unsigned second) {
-    const bool is_direct = dest != first && dest != second;
-    const unsigned pair = is_direct ? dest : REGISTER_SCRATCH;
-    const uint32_t sources[] = {machine_source(machine, first), machine_source(machine, second)};
-    const Word data[] = {machine->word[first], machine->word[second]};
-    machine_make(machine, pair, PAIR, sources, data, 2);
-    if (!is_direct) machine_move(machine, dest, pair);
 }
 
 static bool are_same(const Machine *machine, unsigned left, unsigned right) {
@@ -348,12 +335,13 @@ static bool divides(Word left, Word right) {
     return is_integer(left | right) && right != integer(0) && (right != integer(-1) || left != integer(INTEGER_LEAST));
 }
 
-/* What returns to the frame: the frame alone, or where there is a dynamic state an object that has both. Where threads share the heap it is
- * always the object, since that tells which value it is. */
+/* What returns as the procedure that runs would: its caller's frame alone, or where there is a dynamic state an object that has both. Where
+ * threads share the heap it is always the object, since that tells which value it is. */
 static void make_continuation(Machine *machine, unsigned dest) {
+    stack_make_frames(machine);
     if (!HEAD_WORDS && state_word(machine) == EMPTY_LIST) {
         memory_move(dest, REGISTER_FRAME);
-        machine_hold(machine, dest, CONTINUATION);
+        machine_set(machine, dest, CONTINUATION);
         return;
     }
     machine_make_empty(machine, dest, CONTINUATION_WITH_STATE, 2);
@@ -362,40 +350,38 @@ static void make_continuation(Machine *machine, unsigned dest) {
     machine_begin(machine, dest, 1, REGISTER_SCRATCH);
 }
 
-static size_t resume(Machine *machine, unsigned continuation, unsigned source) {
-    if (machine->word[continuation] == CONTINUATION) {
-        memory_move(REGISTER_FRAME, continuation);
-    } else {
-        memory_load(REGISTER_FRAME, continuation, 0);
-    }
-    return pop_frame(machine, source);
-}
-
 static void make_slots(Machine *machine, unsigned dest, unsigned count) {
     Word undefined[OBJECT_MOST];
     machine_new(machine, dest, count, count + HEAD_WORDS);
     for (unsigned i = 0; i < count; i++) undefined[i] = UNDEFINED;
     memory_put_many(dest, HEAD_WORDS, undefined, count);
-    machine_hold(machine, dest, SLOTS);
+    machine_set(machine, dest, SLOTS);
+}
+
+static void make_box(Machine *machine, unsigned place) {
+    const uint32_t source = machine_source(machine, place);
+    machine_make(machine, REGISTER_SCRATCH, SLOTS, &source, &machine->word[place], 1);
+    machine_move(machine, place, REGISTER_SCRATCH);
 }
 
 /* Makes a procedure that captures values. Where these stand in registers, the next instructions say which, and it is made with them.
  * Answers how many of those instructions are done. */
 static unsigned make_closure(Machine *machine, Instruction closure, const Instruction *next) {
-    uint32_t sources[REGISTERS];
-    Word data[REGISTERS];
+    const unsigned dest = machine->window + closure.a;
+    uint32_t sources[WINDOW_REGISTERS];
+    Word data[WINDOW_REGISTERS];
     unsigned known = 0;
-    for (; known < closure.b && known < REGISTERS; known++) {
+    for (; known < closure.b && known < WINDOW_REGISTERS; known++) {
         const Instruction put = next[known];
         if (put.op != OP_CLOSURE_PUT || put.a != closure.a || put.b == closure.a || put.n != (int32_t)known) break;
-        sources[known] = machine_source(machine, put.b);
-        data[known] = machine->word[put.b];
+        sources[known] = machine_source(machine, machine->window + put.b);
+        data[known] = machine->word[machine->window + put.b];
     }
     const bool is_whole = known == closure.b;
     if (is_whole) {
-        machine_make(machine, closure.a, REFERENCE(KIND_PROCEDURE, closure.n), sources, data, known);
+        machine_make(machine, dest, REFERENCE(KIND_PROCEDURE, closure.n), sources, data, known);
     } else {
-        machine_make_empty(machine, closure.a, REFERENCE(KIND_PROCEDURE, closure.n), closure.b);
+        machine_make_empty(machine, dest, REFERENCE(KIND_PROCEDURE, closure.n), closure.b);
     }
     return is_whole ? known : 0;
 }
@@ -410,12 +396,20 @@ static unsigned make_closure(Machine *machine, Instruction closure, const Instru
 #define AT_CHANGE() (void)0
 #endif
 
-/* Goes on at an instruction. */
+/* Before an instruction that makes something is where registers let go, and where pauses come. */
+#define AT_MAKING() \
+    do { \
+        AT(); \
+        if (memory_is_due()) stack_pause(machine); \
+    } while (0)
+
+/* Goes on at an instruction, in the window that there is then. */
 #define GO(to) \
     do { \
         const size_t at = (to); \
         base = PUBLISHED(program.instructions); \
         next = base + at; \
+        window = machine->window; \
     } while (0)
 
 /* A loop may make no call of the heap, and others may wait for a pause: so it asks now and then. */
@@ -432,6 +426,13 @@ enum { PATIENCE = 1000 };
 #define POLL() (void)0
 #endif
 
+/* A register of the window, and an operand, which may be a constant. */
+#define REGISTER(operand) (window + (operand))
+#define OPERAND(operand) ((operand) + ((operand) < WINDOW_REGISTERS ? window : REGISTERS - WINDOW_REGISTERS))
+#define A OPERAND(i.a)
+#define B OPERAND(i.b)
+#define C OPERAND(i.c)
+
 /* A test's instruction jumps where it fails. */
 #define TEST(condition) \
     do { \
@@ -440,33 +441,36 @@ enum { PATIENCE = 1000 };
 
 #define TEST_NUMBERS(op, operator) \
     do { \
-        if (is_integer(word[i.a] | word[i.b])) { \
-            TEST((int64_t)word[i.a] operator(int64_t) word[i.b]); \
+        const Word left = word[A], right = word[B]; \
+        if (is_integer(left | right)) { \
+            TEST((int64_t)left operator(int64_t) right); \
         } else { \
             AT(); \
-            TEST(test_numbers(machine, op, i.a, i.b)); \
+            TEST(test_numbers(machine, op, A, B)); \
         } \
     } while (0)
 
 /* Sums of words are words of sums, as an integer's last two bits are 0. */
-#define COMPUTE(op, function, left, right) \
+#define COMPUTE(op, function, of_left) \
     do { \
+        const Word left = word[B], right = word[C]; \
         int64_t result; \
-        if (is_integer(word[i.b] | word[i.c]) && !function(left, right, &result)) { \
-            word[i.a] = (Word)result; \
+        if (is_integer(left | right) && !function(of_left(left), (int64_t)right, &result)) { \
+            word[REGISTER(i.a)] = (Word)result; \
         } else { \
-            AT(); \
-            compute_numbers(machine, op, i.a, i.b, i.c); \
+            AT_MAKING(); \
+            compute_numbers(machine, op, REGISTER(i.a), B, C); \
         } \
     } while (0)
 
 #define DIVIDE(op, result) \
     do { \
-        if (divides(word[i.b], word[i.c])) { \
-            word[i.a] = integer(result); \
+        const Word left = word[B], right = word[C]; \
+        if (divides(left, right)) { \
+            word[REGISTER(i.a)] = integer(result); \
         } else { \
-            AT(); \
-            divide_numbers(machine, op, i.a, i.b, i.c); \
+            AT_MAKING(); \
+            divide_numbers(machine, op, REGISTER(i.a), B, C); \
         } \
     } while (0)
 
@@ -478,9 +482,17 @@ enum { PATIENCE = 1000 };
         } \
     } while (0)
 
+/* The last call that stands in a source is known where a fault is told in what doesn't. */
+#define AT_CALL() \
+    do { \
+        AT(); \
+        if (i.c) machine->called_at = machine->at; \
+    } while (0)
+
 __attribute__((noinline)) static void run(Machine *machine, size_t from) {
     Word *const word = machine->word;
     const Instruction *base, *next; /* the first instruction, and the next one */
+    unsigned window;
 #ifdef THREADS
     unsigned patience = PATIENCE;
 #endif
@@ -489,171 +501,198 @@ __attribute__((noinline)) static void run(Machine *machine, size_t from) {
         const Instruction i = *next++;
         switch ((Opcode)i.op) {
         case OP_HALT: return;
-        case OP_WORD: word[i.a] = PUBLISHED(program.words)[i.n]; break;
-        case OP_TABLE_GET:
-            AT();
-            table_get(machine, i.a, (unsigned)i.n);
+        case OP_WORD: word[REGISTER(i.a)] = PUBLISHED(program.words)[i.n]; break;
+        case OP_TABLE_GET: {
+            const Word entry = machine_entry_word((unsigned)i.n);
+            if (is_code(entry)) { /* as most that are called */
+                word[REGISTER(i.a)] = entry;
+            } else {
+                AT();
+                table_get(machine, REGISTER(i.a), (unsigned)i.n);
+            }
             break;
+        }
         case OP_TABLE_SET:
-            AT_CHANGE();
-            machine_set_entry(machine, (unsigned)i.n, i.a);
-            break;
-        case OP_MOVE: machine_move(machine, i.a, i.b); break;
-        case OP_CAPTURED: machine_load_fixed(machine, i.a, REGISTER_PROCEDURE, (unsigned)i.n); break;
-        case OP_CLOSURE:
             AT();
+            if (i.b) want_entry(machine, (unsigned)i.n);
+            machine_set_entry(machine, (unsigned)i.n, A);
+            break;
+        case OP_MOVE: machine_move(machine, REGISTER(i.a), B); break;
+        case OP_CAPTURED:
+            if (i.b) {
+                memory_load(REGISTER(i.a), window + OWN_PROCEDURE, (unsigned)i.n);
+                word[REGISTER(i.a)] = SLOTS;
+            } else {
+                machine_load_fixed(machine, REGISTER(i.a), window + OWN_PROCEDURE, (unsigned)i.n);
+            }
+            break;
+        case OP_CLOSURE:
+            AT_MAKING();
             next += make_closure(machine, i, next);
             break;
-        case OP_CLOSURE_PUT: machine_begin(machine, i.a, (unsigned)i.n, i.b); break;
+        case OP_CLOSURE_PUT: machine_begin(machine, REGISTER(i.a), (unsigned)i.n, REGISTER(i.b)); break;
         case OP_SLOTS:
-            AT();
-            make_slots(machine, i.a, (unsigned)i.n);
+            AT_MAKING();
+            make_slots(machine, REGISTER(i.a), (unsigned)i.n);
+            break;
+        case OP_BOX:
+            AT_MAKING();
+            make_box(machine, REGISTER(i.a));
             break;
         case OP_SLOT_GET:
-            machine_load(machine, i.a, i.b, (unsigned)i.n);
-            if (word[i.a] == UNDEFINED) {
+            machine_load(machine, REGISTER(i.a), REGISTER(i.b), (unsigned)i.n);
+            if (word[REGISTER(i.a)] == UNDEFINED) {
                 AT();
                 machine_fault(machine, "a variable is used before its definition");
             }
             break;
         case OP_SLOT_SET:
             AT_CHANGE();
-            machine_store(machine, i.a, (unsigned)i.n, i.b);
+            machine_store(machine, REGISTER(i.a), (unsigned)i.n, B);
             break;
         case OP_JUMP:
             if (i.n < 0) POLL();
             next += i.n;
             break;
-        case OP_UNLESS: TEST(word[i.a] != FALSE); break;
+        case OP_UNLESS: TEST(word[A] != FALSE); break;
         case OP_LESS: TEST_NUMBERS(OP_LESS, <); break;
         case OP_NOT_GREATER: TEST_NUMBERS(OP_NOT_GREATER, <=); break;
         case OP_NUMBERS_EQUAL: TEST_NUMBERS(OP_NUMBERS_EQUAL, ==); break;
-        case OP_SAME: TEST(are_same(machine, i.a, i.b)); break;
-        case OP_IS: TEST(kind_of(word[i.a]) == (Kind)i.b); break;
-        case OP_EQUIVALENT: TEST(are_same(machine, i.a, i.b) || are_equivalent(machine, i.a, i.b)); break;
-        case OP_IS_NUMBER: TEST(is_integer(word[i.a]) || word[i.a] == REAL); break;
-        case OP_IS_WHOLE: TEST(is_whole_number(machine, i.a)); break;
-        case OP_RECORD_IS: TEST(word[i.a] == record_of_type(word[i.b])); break;
-        case OP_ADD: COMPUTE(OP_ADD, __builtin_add_overflow, (int64_t)word[i.b], (int64_t)word[i.c]); break;
-        case OP_SUBTRACT: COMPUTE(OP_SUBTRACT, __builtin_sub_overflow, (int64_t)word[i.b], (int64_t)word[i.c]); break;
-        case OP_MULTIPLY: COMPUTE(OP_MULTIPLY, __builtin_mul_overflow, number(word[i.b]), (int64_t)word[i.c]); break;
-        case OP_QUOTIENT: DIVIDE(OP_QUOTIENT, number(word[i.b]) / number(word[i.c])); break;
-        case OP_REMAINDER: DIVIDE(OP_REMAINDER, number(word[i.b]) % number(word[i.c])); break;
-        case OP_MODULO: DIVIDE(OP_MODULO, modulo(number(word[i.b]), number(word[i.c]))); break;
+        case OP_SAME: TEST(are_same(machine, A, B)); break;
+        case OP_IS: TEST(kind_of(word[A]) == (Kind)i.b); break;
+        case OP_EQUIVALENT: TEST(are_same(machine, A, B) || are_equivalent(machine, A, B)); break;
+        case OP_IS_NUMBER: TEST(is_integer(word[A]) || word[A] == REAL); break;
+        case OP_IS_WHOLE: TEST(is_whole_number(machine, A)); break;
+        case OP_RECORD_IS: TEST(word[A] == record_of_type(word[B])); break;
+        case OP_ADD: COMPUTE(OP_ADD, __builtin_add_overflow, (int64_t)); break;
+        case OP_SUBTRACT: COMPUTE(OP_SUBTRACT, __builtin_sub_overflow, (int64_t)); break;
+        case OP_MULTIPLY: COMPUTE(OP_MULTIPLY, __builtin_mul_overflow, number); break;
+        case OP_QUOTIENT: DIVIDE(OP_QUOTIENT, number(left) / number(right)); break;
+        case OP_REMAINDER: DIVIDE(OP_REMAINDER, number(left) % number(right)); break;
+        case OP_MODULO: DIVIDE(OP_MODULO, modulo(number(left), number(right))); break;
         case OP_CONS:
-            AT();
-            make_pair(machine, i.a, i.b, i.c);
+            AT_MAKING();
+            make_pair(machine, REGISTER(i.a), B, C);
             break;
         case OP_CAR:
-            WANT(i.b, PAIR, "car", "a pair");
-            machine_load(machine, i.a, i.b, 0);
+            WANT(B, PAIR, "car", "a pair");
+            machine_load(machine, REGISTER(i.a), B, 0);
             break;
         case OP_CDR:
-            WANT(i.b, PAIR, "cdr", "a pair");
-            machine_load(machine, i.a, i.b, 1);
+            WANT(B, PAIR, "cdr", "a pair");
+            machine_load(machine, REGISTER(i.a), B, 1);
             break;
         case OP_SET_CAR:
-            WANT(i.a, PAIR, "set-car!", "a pair");
+            WANT(A, PAIR, "set-car!", "a pair");
             AT_CHANGE();
-            machine_store(machine, i.a, 0, i.b);
+            machine_store(machine, A, 0, B);
             break;
         case OP_SET_CDR:
-            WANT(i.a, PAIR, "set-cdr!", "a pair");
+            WANT(A, PAIR, "set-cdr!", "a pair");
             AT_CHANGE();
-            machine_store(machine, i.a, 1, i.b);
+            machine_store(machine, A, 1, B);
             break;
         case OP_VECTOR_REF:
             AT();
-            vector_ref(machine, i.a, i.b, i.c);
+            vector_ref(machine, REGISTER(i.a), B, C);
             break;
         case OP_VECTOR_SET:
             AT();
-            vector_set(machine, i.a, i.b, i.c);
+            vector_set(machine, A, B, C);
             break;
         case OP_FUNCTION:
-            AT();
-            primitives[i.n & 0xffff].function(machine, i.a, i.b, i.c, (unsigned)(i.n >> 16));
+            AT_MAKING();
+            primitives[i.n & 0xffff].function(machine, REGISTER(i.a), B, C, OPERAND((unsigned)(i.n >> 16)));
             if (machine->exit_status >= 0) return;
             break;
-        case OP_FRAME:
-            AT();
-            push_frame(machine, (uint64_t)(next - base) + (uint64_t)i.n, i.b | (unsigned)i.c << 8, i.a);
-            break;
         case OP_CALL:
-            AT();
-            if (PUBLISHED(program.positions)[machine->at].line) machine->called_at = machine->at;
+            AT_CALL();
+            stack_push(machine, machine->at + 1, i.a);
+            GO(call(machine, i.b));
+            POLL();
+            break;
+        case OP_TAIL_CALL:
+            AT_CALL();
             GO(call(machine, i.b));
             POLL();
             break;
         case OP_APPLY:
-            AT();
-            if (PUBLISHED(program.positions)[machine->at].line) machine->called_at = machine->at;
+            AT_CALL();
+            stack_push(machine, machine->at + 1, i.a);
             GO(apply(machine));
             POLL();
             break;
-        case OP_RETURN: GO(pop_frame(machine, i.a)); break;
-        case OP_CONTINUATION:
-            AT();
-            make_continuation(machine, i.a);
+        case OP_TAIL_APPLY:
+            AT_CALL();
+            GO(apply(machine));
+            POLL();
             break;
-        case OP_RESUME: GO(resume(machine, i.a, i.b)); break;
+        case OP_RETURN:
+            machine_move(machine, window + OWN_PROCEDURE, A);
+            GO(stack_pop(machine));
+            break;
+        case OP_CONTINUATION:
+            AT_MAKING();
+            make_continuation(machine, REGISTER(i.a));
+            break;
+        case OP_RESUME: GO(resume(machine, A, B)); break;
+        default: __builtin_unreachable();
         }
     }
 }
 
-/* Code begins at a position, with nothing that it would return to but the end. */
-static void begin(Machine *machine, size_t at) {
-    machine->at = machine->called_at = at;
-    machine->holding |= (1u << REGISTER_END) - (1u << REGISTER_PROCEDURE);
-    forget_others(machine, 0);
-    machine_new(machine, REGISTER_FRAME, 1, 1); /* it returns to the first instruction, which halts, with a result there */
-    memory_put(REGISTER_FRAME, 0, (uint64_t)REGISTER_FIRST << FRAME_RESULT_SHIFT);
+/* The stack is empty, and no register holds anything but the first. */
+static void begin(Machine *machine) {
+    machine->depth = machine->begins = 0;
+    machine->window = REGISTER_FIRST;
+    machine->at = START_FORM;
+    memory_registers_in_use(REGISTER_TABLE + 1);
 }
 
 /* A handler learns of a fault: the prelude's procedure gets what would be told, and where. Answers where to go on. */
 static size_t raise_fault(Machine *machine) {
     const Word at = position_word(machine_position(machine));
-    make_string_of(machine, REGISTER_FIRST, machine->trouble->text, strlen(machine->trouble->text));
-    machine_set(machine, REGISTER_FIRST + 1, at);
-    table_get(machine, REGISTER_PROCEDURE, program.raise);
+    const unsigned window = machine->window;
+    machine->begins = OWN_ARGUMENT; /* the procedure that failed needs nothing more */
+    memory_nil(REGISTER_NIL);
+    make_string_of(machine, window + OWN_ARGUMENT, machine->trouble->text, strlen(machine->trouble->text));
+    machine_set(machine, window + OWN_ARGUMENT + 1, at);
+    machine->begins = 0;
+    table_get(machine, window + OWN_PROCEDURE, program.raise);
     return call(machine, 2);
 }
 
-void machine_run(Machine *machine, unsigned start) {
+/* Runs from an instruction on to its end, and goes on after each fault that a handler learns of. */
+static void run_all(Machine *machine, size_t from) {
     if (setjmp(machine->trouble->raised)) {
         run(machine, raise_fault(machine));
     } else {
-        begin(machine, program.codes[start].entry);
-        machine->word[REGISTER_PROCEDURE] = PLAIN(KIND_PROCEDURE, start);
-        run(machine, program.codes[start].entry);
+        run(machine, from);
     }
+}
+
+void machine_run(Machine *machine, unsigned code) {
+    begin(machine);
+    machine->called_at = program.codes[code].entry;
+    machine_set(machine, REGISTER_FIRST + 1, PLAIN(KIND_PROCEDURE, code));
+    run_all(machine, START_FORM);
+    begin(machine); /* between forms no register holds anything */
 }
 
 #ifdef THREADS
 
-/* The prelude's procedure for it is called with the thread. Answers where to go on. */
-static size_t begin_thread(Machine *machine) {
-    const size_t called_at = machine->called_at; /* what started it */
-    begin(machine, 0);
-    machine->called_at = called_at;
-    table_get(machine, REGISTER_FIRST, OWN_THREAD);
-    table_get(machine, REGISTER_PROCEDURE, program.run_thread);
-    return call(machine, 1);
-}
-
 void machine_run_thread(Machine *machine) {
-    if (setjmp(machine->trouble->raised)) {
-        run(machine, raise_fault(machine));
-    } else {
-        run(machine, begin_thread(machine));
-    }
+    begin(machine);
+    table_get(machine, REGISTER_FIRST + 1, program.run_thread);
+    table_get(machine, REGISTER_FIRST + 2, OWN_THREAD);
+    run_all(machine, START_WITH_ARGUMENT);
 }
 
 #endif
 
 void machine_reset(Machine *machine) {
     machine->output = stdout;
-    memory_nil(REGISTER_NIL);
+    begin(machine);
     machine_set(machine, REGISTER_SCRATCH, EMPTY_LIST);
     machine_set_entry(machine, OWN_STATE, REGISTER_SCRATCH);
     machine_set_entry(machine, OWN_BINDINGS, REGISTER_SCRATCH);

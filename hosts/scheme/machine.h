@@ -1,15 +1,22 @@
 /*
  * The machine that runs compiled programs. SPDX: MIT OR Apache-2.0
  *
- * Its registers are the sixteen of the heap, each with a word of C's memory beside it: a value in register r is `word[r]`, and where that
- * says so what the heap's register r holds. Operands from 16 on have a word alone, which is constant. So arithmetic and tests ask nothing
- * of the heap, and a program's variables stand in registers while its procedure runs.
+ * Its registers are those of the heap, each with a word of C's memory beside it: a value in register r is `word[r]`, and where that says so
+ * what the heap's register r holds. Behind the registers stand constants, which have a word alone. So arithmetic and tests ask nothing of
+ * the heap, and a program's variables stand in registers while its procedure runs.
  *
- * A call that isn't a tail call makes a frame: an object that has the frame before it, where to go on, and the registers that are needed
- * then. Frames never change, so a continuation is a reference to a frame. Code and the words of globals and constants are C's; what globals
- * and constants refer to is held by the table, an object that register 0 holds.
+ * The registers are a stack. The procedure that runs has a WINDOW of them: first itself, then its arguments, and then its variables and
+ * what it computes. A call that isn't a tail call puts a procedure and its arguments behind what the caller still needs, and the callee's
+ * window begins there; its result stands in the first register of its window, where the caller finds it. So a call makes no object and
+ * moves nothing. Where the stack has no room for a window, or a continuation is wanted, all callers become FRAMES: objects, each with the
+ * frame before, where to go on, and the registers that are needed then. A frame never changes, so a continuation is a reference to a frame.
+ * A return for which the stack has no caller takes one out of its frame.
  *
- * Each thread has a machine, and all have one program and one table. Where there is one thread, nothing is made for others.
+ * Each instruction that calls or makes something has a set of the window's registers that are needed after it, or by it. So a frame has
+ * these alone, and before a pause all other registers let go of what they hold: what nobody can read any more is kept by none.
+ *
+ * Code and the words of globals and constants are C's; what globals and constants refer to is held by the table, an object that register 0
+ * holds. Each thread has a machine, and all have one program and one table. Where there is one thread, nothing is made for others.
  */
 #ifndef MACHINE_H
 #define MACHINE_H
@@ -19,30 +26,44 @@
 #include "symbols.h"
 #include "value.h"
 
+/* The registers of a procedure's window. Tests build the machine with fewer. */
+#ifndef WINDOW_REGISTERS
+#define WINDOW_REGISTERS 64
+#endif
+
 enum {
-    REGISTER_TABLE = 0,     /* references of globals and constants; it has no word */
-    REGISTER_FRAME = 1,     /* the frame that a return goes to; it has no word */
-    REGISTER_PROCEDURE = 2, /* the procedure that runs */
-    REGISTER_SCRATCH = 3,   /* free within an instruction */
-    REGISTER_FIRST = 4,     /* a procedure finds its arguments from here on, and variables stand here */
-    REGISTER_NIL = 15,      /* always nil */
-    REGISTER_END = 15,
+    REGISTER_TABLE = 0,   /* references of globals and constants; it has no word */
+    REGISTER_FRAME = 1,   /* the frame that a return goes to where no caller is on the stack; it has no word */
+    REGISTER_SCRATCH = 2, /* free within an instruction */
+    REGISTER_NIL = MEMORY_NIL,
+    REGISTER_FIRST = 4, /* the stack begins here */
     REGISTERS = MEMORY_REGISTERS,
-    OPERANDS = 256,
+
+    /* of a window: */
+    OWN_PROCEDURE = 0, /* the procedure that runs, and in the end its result */
+    OWN_ARGUMENT = 1,  /* the first argument */
+
+    /* An operand is a register of the window, or behind these a constant. */
+    CONSTANTS = 256 - WINDOW_REGISTERS,
     ARGUMENTS_MOST = 8,
+    STACK_SPARE = 4,                     /* registers that are left free behind each window, for a call of the prelude's */
     RECORD_FIELDS_MOST = OBJECT_MOST + 1 /* more than a record has */
 };
+
+/* A set of a window's registers. */
+typedef uint64_t Registers;
 
 typedef enum opcode {
     OP_HALT,
     OP_WORD,        /* a becomes words[n] */
     OP_TABLE_GET,   /* a becomes entry n of the table */
-    OP_TABLE_SET,   /* entry n of the table becomes a */
+    OP_TABLE_SET,   /* entry n of the table, which is defined where b isn't 0, becomes a */
     OP_MOVE,        /* a becomes b */
-    OP_CAPTURED,    /* a becomes what the procedure that runs captured as its n-th */
+    OP_CAPTURED,    /* a becomes what the procedure that runs captured as its n-th; where b isn't 0 these are slots */
     OP_CLOSURE,     /* a becomes a procedure with code n that captures b values */
     OP_CLOSURE_PUT, /* what procedure a captured as its n-th becomes b */
     OP_SLOTS,       /* a becomes n undefined slots */
+    OP_BOX,         /* a becomes a slot that has a */
     OP_SLOT_GET,    /* a becomes slot n of b */
     OP_SLOT_SET,    /* slot n of a becomes b */
     OP_JUMP,        /* go on n instructions further */
@@ -67,14 +88,15 @@ typedef enum opcode {
     OP_CDR,
     OP_SET_CAR, /* that of a becomes b */
     OP_SET_CDR,
-    OP_VECTOR_REF,   /* a becomes element c of b */
-    OP_VECTOR_SET,   /* element b of a becomes c */
-    OP_FUNCTION,     /* a becomes what function n (bits 0 to 15) makes of b, c and n (from bit 16 on) */
-    OP_FRAME,        /* a call begins that returns n instructions further, to a; registers b + 256 c are needed then */
-    OP_CALL,         /* call the procedure with b arguments */
-    OP_APPLY,        /* call the procedure with the list of arguments in the first register */
+    OP_VECTOR_REF, /* a becomes element c of b */
+    OP_VECTOR_SET, /* element b of a becomes c */
+    OP_FUNCTION,   /* a becomes what function n (bits 0 to 15) makes of b, c and n (from bit 16 on) */
+    OP_CALL,       /* call procedure a with the b arguments behind it; its result is a. It stands in a source where c isn't 0 */
+    OP_TAIL_CALL,  /* the same of the first register, whose result is what the procedure that runs returns */
+    OP_APPLY,      /* as a call, with a list of arguments behind the procedure */
+    OP_TAIL_APPLY,
     OP_RETURN,       /* return a */
-    OP_CONTINUATION, /* a becomes what returns to the frame */
+    OP_CONTINUATION, /* a becomes what returns as the procedure that runs would */
     OP_RESUME        /* return b where continuation a says; what is to be done on the way is done */
 } Opcode;
 
@@ -83,11 +105,20 @@ typedef struct instruction {
     int32_t n;
 } Instruction;
 
-/* What is called: where its code begins, and which arguments it takes. */
+/* Where an instruction stands in a source. Where it calls or makes something: the registers that are needed by it, or after it. */
+typedef struct site {
+    Position at;
+    Registers needed;
+} Site;
+
+/* What is called: where its code begins, which arguments it takes, and how many registers its window takes. Where it has a rest parameter,
+ * there may be other code that does the same for just so many arguments as that has parameters. */
 typedef struct code {
     size_t entry;
     unsigned parameters;
     bool has_rest;
+    unsigned registers;
+    unsigned otherwise; /* 0: none */
     Symbol name;
 } Code;
 
@@ -103,7 +134,7 @@ typedef struct record_type {
  */
 typedef struct program {
     Instruction *instructions;
-    Position *positions; /* of instructions */
+    Site *sites; /* of instructions */
     size_t instruction_count, instruction_room;
     Code *codes;
     size_t code_count, code_room;
@@ -137,31 +168,41 @@ typedef struct trouble {
 
 struct waiter;
 
+/* A caller on the stack: the instruction that it goes on with, and where its window begins. */
+typedef struct caller {
+    uint32_t resume, window;
+} Caller;
+
 /* What a thread of the program has. */
 typedef struct machine {
-    Word word[OPERANDS];
-    unsigned holding;  /* the registers that may hold an object */
-    unsigned operands; /* how many operands there are */
-    size_t at;         /* the instruction that runs, where it may fault */
-    size_t called_at;  /* the last call that stands in a source */
-    char *text;        /* bytes of strings that are worked on */
+    Word word[REGISTERS + CONSTANTS];
+    Caller callers[REGISTERS];
+    unsigned depth;     /* callers on the stack */
+    unsigned window;    /* the register that the window begins with */
+    unsigned end;       /* registers of the stack end here, but for some to spare */
+    unsigned begins;    /* registers that a procedure that begins has, itself and its arguments; 0: none begins */
+    unsigned constants; /* how many there are behind the registers */
+    size_t at;          /* the instruction that runs, where it may fault or make something */
+    size_t called_at;   /* the last call that stands in a source */
+    char *text;         /* bytes of strings that are worked on */
     size_t text_room;
     FILE *output;
     int exit_status; /* -1 while the program goes on */
     Trouble *trouble;
 #ifdef THREADS
-    Word own[OWN_ENTRIES]; /* words of its own entries of the table */
-    unsigned place;        /* where what these refer to stands in the directory */
-    struct waiter *waiter; /* threads.c */
+    Word own[OWN_ENTRIES];  /* words of its own entries of the table */
+    unsigned place;         /* where what these refer to stands in the directory */
+    MemoryPlace *registers; /* which the thread has as it begins */
+    struct waiter *waiter;  /* threads.c */
 #endif
 } Machine;
 
-/* The machine of the first thread, beside which there may be so many. */
-void machine_open(Machine *machine, unsigned threads);
+/* The machine of the first thread, beside which there may be so many; the heap has so many registers for each. */
+void machine_open(Machine *machine, unsigned threads, unsigned registers);
 void machine_close(Machine *machine);
 
 /* Adds what a compiled program consists of. */
-size_t machine_add_instruction(Instruction instruction, Position at);
+size_t machine_add_instruction(Instruction instruction, Site site);
 unsigned machine_add_code(Code code);
 size_t machine_add_word(Word word);
 unsigned machine_add_record(RecordType type);
@@ -190,21 +231,18 @@ void machine_run_thread(Machine *machine);
 static inline bool is_alone(void) { return !__atomic_load_n(&program.is_shared, __ATOMIC_RELAXED); }
 #endif
 
-/* A register becomes a word without a reference. */
-static inline void machine_set(Machine *machine, unsigned dest, Word word) { machine->word[dest] = word; }
+/* All registers of the stack that are needed no more let go of what they hold. */
+void machine_let_go(const Machine *machine);
 
-/* A register has got a value whose reference the heap's register holds. */
-static inline void machine_hold(Machine *machine, unsigned dest, Word word) {
-    machine->word[dest] = word;
-    machine->holding |= 1u << dest;
-}
+/* The heap had no room: what can't be reached is reclaimed. */
+void machine_make_room(const Machine *machine);
+
+/* A register becomes a word; where that has a reference, the heap's register holds that already. */
+static inline void machine_set(Machine *machine, unsigned dest, Word word) { machine->word[dest] = word; }
 
 static inline void machine_move(Machine *machine, unsigned dest, unsigned source) {
     machine->word[dest] = machine->word[source];
-    if (is_reference(machine->word[dest]) && dest != source) {
-        memory_move(dest, source);
-        machine->holding |= 1u << dest;
-    }
+    if (is_reference(machine->word[dest]) && dest != source) memory_move(dest, source);
 }
 
 /* The register that a field's reference is stored from: one that is nil, where the value has none. */
@@ -213,11 +251,15 @@ static inline uint32_t machine_source(const Machine *machine, unsigned operand) 
 }
 
 static inline void machine_new(const Machine *machine, unsigned dest, unsigned references, unsigned words) {
+    if (memory_new(dest, references, words)) return;
+    machine_make_room(machine);
     if (!memory_new(dest, references, words)) machine_full(machine);
 }
 
 static inline void machine_new_with(const Machine *machine, unsigned dest, const uint32_t *sources, size_t references, const Word *data,
                                     size_t words) {
+    if (memory_new_with(dest, sources, references, data, words)) return;
+    machine_make_room(machine);
     if (!memory_new_with(dest, sources, references, data, words)) machine_full(machine);
 }
 

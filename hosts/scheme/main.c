@@ -22,13 +22,14 @@
 #endif
 
 static const char usage[] =
-    "usage: scheme [--heap BLOCKS] [--bodies BLOCKS] [--every BYTES] [--pauses] [--threads N] [--helpers N] [FILE]\n"
+    "usage: scheme [--heap BLOCKS] [--bodies BLOCKS] [--every BYTES] [--registers N] [--pauses] [--threads N] [--helpers N] [FILE]\n"
     "\n"
     "Runs FILE, or what is typed where there is none. A block has 32 KB.\n"
     "\n"
     "--heap BLOCKS    size of the heap, 1 to 65536 (2048)\n"
     "--bodies BLOCKS  room for strings of more than 8184 bytes, 1 to 65536 (256)\n"
     "--every BYTES    new objects between two plain pauses of the proved collector (chosen by the size of the heap)\n"
+    "--registers N    registers of the heap that a thread has, up to 256 (256); it calls deeper without frames by more\n"
     "--pauses         tells at the end how many pauses there were, and how long they took, on the standard error output\n"
     "--threads N      runs on a heap that threads share, with up to N threads at once beside the first\n"
     "--helpers N      runs on such a heap, with N threads that help the collector\n"
@@ -40,6 +41,7 @@ enum { BLOCKS_MOST = LXR_MOST_SHARED_BLOCKS, THREADS_MOST = LXR_MOST_MUTATORS - 
 #else
 enum { BLOCKS_MOST = 65536 };
 #endif
+enum { REGISTERS_LEAST = REGISTER_FIRST + WINDOW_REGISTERS + STACK_SPARE };
 enum { BODY_BLOCKS_IN_ALL = 65536, BLOCKS_CHOSEN = BLOCKS_MOST < 2048 ? BLOCKS_MOST : 2048 };
 
 typedef struct options {
@@ -74,6 +76,13 @@ static void run_text(Machine *machine, const char *text, size_t length) {
     }
 }
 
+/* The code of a procedure of the prelude that captures nothing; whether there is one of that name. */
+static bool has_code(const char *name, unsigned *code) {
+    const Word word = program.table[syntax_entry(name)];
+    *code = (unsigned)payload(word);
+    return kind_of(word) == KIND_PROCEDURE && !is_reference(word);
+}
+
 /* A procedure that does what a call of its name is compiled to: `(define (car a) (car a))`. */
 static void define_itself(Machine *machine, const char *name, unsigned parameters) {
     static const char *const names[] = {"", " a", " a b", " a b c"};
@@ -97,24 +106,23 @@ static void define_state(void) {
     syntax_define("%dot", DOT);
 }
 
-/* The procedure that returns a value where a continuation says. */
-static void define_resume(void) {
-    const Instruction resume = {.op = OP_RESUME, .a = REGISTER_FIRST, .b = REGISTER_FIRST + 1};
-    const Code code = {.entry = machine_add_instruction(resume, (Position){0}), .parameters = 2, .name = symbol_of("%resume", 7)};
-    syntax_define("%resume", PLAIN(KIND_PROCEDURE, machine_add_code(code)));
+/* A procedure of instructions that are written here, each of which needs all its registers. */
+static Word procedure_of(const char *name, unsigned parameters, const Instruction *instructions, size_t count) {
+    Code code = {.entry = program.instruction_count, .parameters = parameters, .name = symbol_of(name, strlen(name))};
+    code.registers = OWN_ARGUMENT + parameters;
+    for (size_t i = 0; i < count; i++) machine_add_instruction(instructions[i], (Site){.needed = ((Registers)1 << code.registers) - 1});
+    return PLAIN(KIND_PROCEDURE, machine_add_code(code));
 }
 
-/* The procedure that calls another with what returns to its own caller. */
+/* The procedure that returns a value where a continuation says, and those that call another with what returns to their own caller. */
 static void define_continuations(void) {
-    const Position nowhere = {0};
-    const Symbol name = symbol_of("call/cc", 7);
-    const Instruction call_argument = {.op = OP_MOVE, .a = REGISTER_PROCEDURE, .b = REGISTER_FIRST};
-    const size_t entry = machine_add_instruction(call_argument, nowhere);
-    machine_add_instruction((Instruction){.op = OP_CONTINUATION, .a = REGISTER_FIRST}, nowhere);
-    machine_add_instruction((Instruction){.op = OP_CALL, .b = 1}, nowhere);
-    const Word procedure = PLAIN(KIND_PROCEDURE, machine_add_code((Code){.entry = entry, .parameters = 1, .name = name}));
+    static const Instruction resume[] = {{.op = OP_RESUME, .a = OWN_ARGUMENT, .b = OWN_ARGUMENT + 1}};
+    static const Instruction call[] = {
+        {.op = OP_MOVE, .a = OWN_PROCEDURE, .b = OWN_ARGUMENT}, {.op = OP_CONTINUATION, .a = OWN_ARGUMENT}, {.op = OP_TAIL_CALL, .b = 1}};
+    const Word procedure = procedure_of("call/cc", 1, call, sizeof call / sizeof *call);
     syntax_define("call/cc", procedure);
     syntax_define("call-with-current-continuation", procedure);
+    syntax_define("%resume", procedure_of("%resume", 2, resume, sizeof resume / sizeof *resume));
 }
 
 #ifdef THREADS
@@ -150,13 +158,21 @@ static void define_first_thread(Machine *machine) {
 
 static void run_prelude(Machine *machine) {
     define_continuations();
-    define_resume();
 #ifdef THREADS
     define_threads();
 #endif
-    for (unsigned i = 0; i < primitive_count; i++) define_itself(machine, primitives[i].name, primitives[i].most);
+    unsigned *const codes = more_memory(NULL, primitive_count * sizeof *codes);
+    for (unsigned i = 0; i < primitive_count; i++) {
+        define_itself(machine, primitives[i].name, primitives[i].most);
+        has_code(primitives[i].name, &codes[i]);
+    }
     for (unsigned path = 0; syntax_path(path); path++) define_itself(machine, syntax_path(path), 1);
     for (size_t i = 0; prelude[i]; i++) run_text(machine, prelude[i], strlen(prelude[i]));
+    for (unsigned i = 0; i < primitive_count; i++) { /* where the prelude defines it for any number of arguments */
+        unsigned code;
+        if (has_code(primitives[i].name, &code) && program.codes[code].has_rest) program.codes[code].otherwise = codes[i];
+    }
+    free(codes);
 #ifdef THREADS
     define_first_thread(machine);
 #endif
@@ -249,14 +265,14 @@ static int run_program(Machine *machine, const char *name) {
     return status;
 }
 
-static uint32_t want_number(const char *option, const char *text, unsigned long most) {
+static uint32_t want_number(const char *option, const char *text, unsigned long least, unsigned long most) {
     char *end;
     if (!text || *text < '0' || *text > '9') goto wrong;
     errno = 0;
     const unsigned long number = strtoul(text, &end, 10);
-    if (!errno && !*end && number && number <= most) return (uint32_t)number;
+    if (!errno && !*end && number >= least && number <= most) return (uint32_t)number;
 wrong:
-    fprintf(stderr, "scheme: %s wants a number from 1 to %lu\n", option, most);
+    fprintf(stderr, "scheme: %s wants a number from %lu to %lu\n", option, least, most);
     exit(1);
 }
 
@@ -267,16 +283,18 @@ static void tell_usage(bool is_wanted) {
 
 static void want_option(Options *options, const char *word, const char *value) {
     if (strcmp(word, "--heap") == 0) {
-        options->memory.blocks = want_number(word, value, BLOCKS_MOST);
+        options->memory.blocks = want_number(word, value, 1, BLOCKS_MOST);
     } else if (strcmp(word, "--bodies") == 0) {
-        options->memory.body_blocks = want_number(word, value, BODY_BLOCKS_IN_ALL);
+        options->memory.body_blocks = want_number(word, value, 1, BODY_BLOCKS_IN_ALL);
     } else if (strcmp(word, "--every") == 0) {
-        options->memory.every = want_number(word, value, UINT32_MAX);
+        options->memory.every = want_number(word, value, 1, UINT32_MAX);
+    } else if (strcmp(word, "--registers") == 0) {
+        options->memory.registers = want_number(word, value, REGISTERS_LEAST, REGISTERS);
 #ifdef THREADS
     } else if (strcmp(word, "--threads") == 0) {
-        options->memory.threads = want_number(word, value, THREADS_MOST);
+        options->memory.threads = want_number(word, value, 1, THREADS_MOST);
     } else if (strcmp(word, "--helpers") == 0) {
-        options->memory.helpers = want_number(word, value, HELPERS_MOST);
+        options->memory.helpers = want_number(word, value, 1, HELPERS_MOST);
 #endif
     } else {
         tell_usage(strcmp(word, "--help") == 0);
@@ -284,7 +302,7 @@ static void want_option(Options *options, const char *word, const char *value) {
 }
 
 static Options options_of(int count, char **words) {
-    Options options = {.memory = {.blocks = BLOCKS_CHOSEN, .body_blocks = 256}};
+    Options options = {.memory = {.blocks = BLOCKS_CHOSEN, .body_blocks = 256, .registers = REGISTERS}};
     for (int i = 1; i < count; i++) {
         const char *const word = words[i];
         if (strcmp(word, "--pauses") == 0) {
@@ -329,9 +347,10 @@ static bool is_output_lost(void) {
 #ifdef THREADS
 static bool tells_pauses;
 
-/* Ends the program from any thread; others go on until it is over. The first that calls ends it. */
+/* Ends the program from any thread; others go on until it is over. The first that calls ends it, but for one that tells a fault. */
 static void end_program(int status) {
     static bool ends;
+    fault_no_more();
     while (__atomic_exchange_n(&ends, true, __ATOMIC_ACQUIRE)) pause();
     if (is_output_lost()) status = 1;
     if (tells_pauses) memory_report(stderr);
@@ -350,7 +369,7 @@ int main(int count, char **words) {
         return 1;
     }
     if (setjmp(fault_exit)) return 1; /* the heap is too small for what is always there */
-    machine_open(&machine, options.memory.threads);
+    machine_open(&machine, options.memory.threads, options.memory.registers);
 #ifdef THREADS
     tells_pauses = options.memory.pauses;
     threads_open(&machine, options.memory.threads, end_program);

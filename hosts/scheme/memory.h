@@ -3,8 +3,11 @@
  *
  * It has one of four versions, chosen at build: memory_lxr.c on the proved collector, memory_threads.c on the one that threads share,
  * memory_boehm.c on Boehm's, and memory_malloc.c, which never frees. An object has up to OBJECT_MOST references and as many data words; a
- * large object has a body of words alone. Objects are held by sixteen registers, by number. What a register, or an object that a register
+ * large object has a body of words alone. Objects are held by up to 256 registers, by number. What a register, or an object that a register
  * leads to, holds is kept.
+ *
+ * Registers that nobody reads any more let go of what they hold before a pause, and not at once: a count of what is made, `memory_left`,
+ * says when that is due. Then whoever runs the program lets go of them, and calls memory_pause.
  *
  * Where threads share the heap (THREADS), each has registers of its own from memory_enter to memory_leave. Register 0 is the same for all:
  * an object with WORLD_REFERENCES references. An operation on a field is one step. A thread that waits rests meanwhile.
@@ -16,13 +19,15 @@
 #include <stddef.h>
 #include <stdio.h>
 
-enum { MEMORY_REGISTERS = 16, OBJECT_MOST = 1023, BLOCK_BYTES = 32768, BODY_BLOCK_WORDS = 4096, BODY_BLOCKS_MOST = 128 };
+enum { MEMORY_REGISTERS = 256, MEMORY_NIL = 3 /* is nil between calls here */ };
+enum { OBJECT_MOST = 1023, BLOCK_BYTES = 32768, BODY_BLOCK_WORDS = 4096, BODY_BLOCKS_MOST = 128 };
 
 typedef struct memory_options {
     uint32_t blocks;      /* the heap's size, in blocks of 32 KB */
     uint32_t body_blocks; /* room for bodies of large objects, in such blocks */
     uint32_t every;       /* bytes of new objects between two plain pauses; 0: the version's own choice */
     bool pauses;          /* whether pauses are timed */
+    uint32_t registers;   /* of each thread, 16 to MEMORY_REGISTERS */
     uint32_t threads;     /* threads beside the first that may be at once */
     uint32_t helpers;     /* threads that help the collector; 0: the version's own choice */
 } MemoryOptions;
@@ -41,6 +46,9 @@ void memory_move(unsigned dest, unsigned source);
 void memory_nil(unsigned dest);
 bool memory_same(unsigned left, unsigned right);
 
+/* All registers from a number on become nil. */
+void memory_registers_in_use(unsigned count);
+
 /* A new object with its fields: what these registers hold, among which `dest` isn't, and these words. Whether there is room. */
 bool memory_new_with(unsigned dest, const uint32_t *sources, size_t references, const Word *data, size_t words);
 
@@ -54,6 +62,16 @@ bool memory_big(unsigned dest, unsigned blocks);
 void memory_read(unsigned base, size_t index, Word *into, size_t count);
 void memory_write(unsigned base, size_t index, const Word *from, size_t count);
 
+/* Bytes that the thread may make until registers are to let go of what isn't needed. */
+#ifdef THREADS
+extern __thread int64_t memory_left;
+#else
+extern int64_t memory_left;
+#endif
+static inline bool memory_is_due(void) { return memory_left < 0; }
+
+/* They have. A pause is made, where the heap leaves that to its host. */
+void memory_pause(void);
 void memory_collect(void);
 
 /* How many pauses there were, by kind, and how long they took. */
@@ -62,8 +80,12 @@ void memory_report(FILE *to);
 #ifdef THREADS
 enum { WORLD_REFERENCES = 64 };
 
-/* The thread that calls has registers, or there is no memory for them; the thread that opens the heap has them at once. */
-bool memory_enter(void);
+/* Registers for another thread, which it has from memory_enter on, or null where there is no memory for them; the thread that calls rests.
+ * Until the other has them or memory_forget, pauses wait for it. The thread that opens the heap has registers at once. */
+typedef struct memory_place MemoryPlace;
+MemoryPlace *memory_place(void);
+void memory_forget(MemoryPlace *place);
+void memory_enter(MemoryPlace *place);
 void memory_leave(void);
 
 /* No pause waits for the thread from here until it wakes, and it calls nothing else of these. */

@@ -2,7 +2,8 @@
  * The heap on Boehm's collector. SPDX: MIT OR Apache-2.0
  *
  * The heap has its whole size from the beginning and never grows, as that of the proved collector. The registers are static, so that the
- * collector finds them. Objects without references are said to have none.
+ * collector finds them. Objects without references are said to have none. It makes its pauses itself, wherever something is made; registers
+ * let go of what isn't needed several times between two of them.
  */
 #include "memory.h"
 #include "pauses.h"
@@ -18,6 +19,10 @@ typedef struct object {
 
 static Object *registers[MEMORY_REGISTERS];
 static uint64_t pause_began;
+static int64_t chosen_left; /* bytes between two times that registers let go */
+int64_t memory_left;
+
+enum { TIMES_IN_HEAP = 16, LEAST_BETWEEN = 2 * BLOCK_BYTES };
 
 static Object **references_of(Object *object) { return (Object **)(void *)(object + 1); }
 
@@ -40,6 +45,8 @@ bool memory_open(const MemoryOptions *options) {
     GC_set_max_heap_size(bytes);
     const size_t has = GC_get_heap_size();
     if (has < bytes) GC_expand_hp(bytes - has);
+    chosen_left = bytes / TIMES_IN_HEAP > LEAST_BETWEEN ? (int64_t)(bytes / TIMES_IN_HEAP) : LEAST_BETWEEN;
+    memory_left = chosen_left;
     if (options->pauses) GC_set_on_collection_event(time_pause);
     return true;
 }
@@ -54,6 +61,7 @@ static bool make(unsigned dest, size_t references, size_t words) {
     object->references = (uint32_t)references;
     object->words = (uint32_t)words;
     registers[dest] = object;
+    memory_left -= (int64_t)bytes;
     return true;
 }
 
@@ -72,6 +80,8 @@ void memory_move(unsigned dest, unsigned source) { registers[dest] = registers[s
 void memory_nil(unsigned dest) { registers[dest] = NULL; }
 
 bool memory_same(unsigned left, unsigned right) { return registers[left] == registers[right]; }
+
+void memory_registers_in_use(unsigned count) { memset(registers + count, 0, (MEMORY_REGISTERS - count) * sizeof *registers); }
 
 bool memory_new_with(unsigned dest, const uint32_t *sources, size_t references, const Word *data, size_t words) {
     if (!make(dest, references, words)) return false;
@@ -101,6 +111,8 @@ void memory_read(unsigned base, size_t index, Word *into, size_t count) {
 void memory_write(unsigned base, size_t index, const Word *from, size_t count) {
     memcpy(words_of(registers[base]) + index, from, count * sizeof *from);
 }
+
+void memory_pause(void) { memory_left = chosen_left; }
 
 void memory_collect(void) { GC_gcollect(); }
 

@@ -15,7 +15,7 @@ enum { HEADER_BYTES = 8, FIELD_BYTES = 8, LEAST_BETWEEN = 2 * BLOCK_BYTES };
 
 static lxr_heap heap = LXR_HEAP_INIT;
 static uint64_t chosen_bytes; /* of new objects between two plain pauses; 0: half of what is free */
-static uint64_t bytes_left;   /* of new objects until the next plain pause */
+int64_t memory_left;          /* until the next plain pause */
 static bool is_timed;
 static uint64_t pauses_known;
 
@@ -37,10 +37,10 @@ static uint64_t count(uint32_t what) {
 
 static void plan_pause(void) {
     const uint64_t half = count(LXR_COUNT_FREE_BLOCKS) * BLOCK_BYTES / 2;
-    bytes_left = chosen_bytes ? chosen_bytes : half > LEAST_BETWEEN ? half : LEAST_BETWEEN;
+    memory_left = (int64_t)(chosen_bytes ? chosen_bytes : half > LEAST_BETWEEN ? half : LEAST_BETWEEN);
 }
 
-static void pause_plainly(void) {
+void memory_pause(void) {
     const uint64_t began = is_timed ? pauses_clock() : 0;
     want(lxr_pause(&heap));
     if (is_timed) pauses_add(PAUSE_PLAIN, pauses_clock() - began);
@@ -62,6 +62,7 @@ bool memory_open(const MemoryOptions *options) {
     is_timed = options->pauses;
     lxr_settings settings = LXR_SETTINGS(options->blocks, options->body_blocks);
     settings.pace = LXR_PACE_NEVER;
+    settings.registers = options->registers;
     if (lxr_open(&heap, &settings) != LXR_OK) return false;
     plan_pause();
     return true;
@@ -75,12 +76,8 @@ static bool is_done(lxr_code code) {
     return true;
 }
 
-/* A new object comes: the plain pause that is due before it, and its bytes. */
-static inline void count_new(size_t fields) {
-    const uint64_t bytes = HEADER_BYTES + FIELD_BYTES * (uint64_t)fields;
-    if (bytes_left < bytes) pause_plainly();
-    bytes_left = bytes_left < bytes ? 0 : bytes_left - bytes;
-}
+/* A new object comes. */
+static inline void count_new(size_t fields) { memory_left -= HEADER_BYTES + FIELD_BYTES * (int64_t)fields; }
 
 bool memory_new(unsigned dest, unsigned references, unsigned words) {
     count_new((size_t)references + words);
@@ -137,6 +134,8 @@ bool memory_same(unsigned left, unsigned right) {
     want(lxr_same(&heap, left, right, &same));
     return same;
 }
+
+void memory_registers_in_use(unsigned count_of_registers) { want(lxr_registers_in_use(&heap, count_of_registers)); }
 
 bool memory_big(unsigned dest, unsigned blocks) {
     const uint64_t began = is_timed ? pauses_clock() : 0;

@@ -1,5 +1,7 @@
 /*
  * The heap on plain malloc, which never frees. SPDX: MIT OR Apache-2.0
+ *
+ * Where it is told how often, registers let go of what isn't needed, for no use but in tests.
  */
 #include "memory.h"
 #include <stdlib.h>
@@ -12,6 +14,8 @@ typedef struct object {
 } Object;
 
 static Object *registers[MEMORY_REGISTERS];
+static int64_t chosen_left; /* bytes between two times that registers let go */
+int64_t memory_left;
 
 static Object **references_of(Object *object) { return (Object **)(void *)(object + 1); }
 
@@ -23,11 +27,13 @@ static bool make(unsigned dest, size_t references, size_t words) {
     object->references = (uint32_t)references;
     object->words = (uint32_t)words;
     registers[dest] = object;
+    memory_left -= (int64_t)(sizeof *object + references * sizeof(Object *) + words * sizeof(Word));
     return true;
 }
 
 bool memory_open(const MemoryOptions *options) {
-    (void)options;
+    chosen_left = options->every ? options->every : INT64_MAX;
+    memory_left = chosen_left;
     return true;
 }
 
@@ -48,6 +54,8 @@ void memory_move(unsigned dest, unsigned source) { registers[dest] = registers[s
 void memory_nil(unsigned dest) { registers[dest] = NULL; }
 
 bool memory_same(unsigned left, unsigned right) { return registers[left] == registers[right]; }
+
+void memory_registers_in_use(unsigned count) { memset(registers + count, 0, (MEMORY_REGISTERS - count) * sizeof *registers); }
 
 bool memory_new_with(unsigned dest, const uint32_t *sources, size_t references, const Word *data, size_t words) {
     if (!make(dest, references, words)) return false;
@@ -77,6 +85,8 @@ void memory_read(unsigned base, size_t index, Word *into, size_t count) {
 void memory_write(unsigned base, size_t index, const Word *from, size_t count) {
     memcpy(words_of(registers[base]) + index, from, count * sizeof *from);
 }
+
+void memory_pause(void) { memory_left = chosen_left; }
 
 void memory_collect(void) {}
 

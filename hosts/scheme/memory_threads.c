@@ -2,17 +2,20 @@
  * The heap on the proved collector, as threads share it. SPDX: MIT OR Apache-2.0
  *
  * Each thread of the program has a mutator, whose registers are its machine's; a call here is one of that mutator's operations, or several.
- * Pauses come by the heap's own pace. There are no large objects, so a long string is an object of parts.
+ * Pauses come by the heap's own pace, at any call, and so registers let go of what isn't needed several times between two of them. There
+ * are no large objects, so a long string is an object of parts.
  */
 #include "memory.h"
 #include "pauses.h"
 #include <lxr_threads.h>
 #include <stdlib.h>
 
-enum { PART_WORDS = OBJECT_MOST, LOG = 16384, LEAST_PACE = 2 * BLOCK_BYTES, SPARE_REGISTER = MEMORY_REGISTERS - 1 };
+enum { PART_WORDS = OBJECT_MOST, LOG = 16384, LEAST_PACE = 2 * BLOCK_BYTES, FIELD_BYTES = 8 };
 
 static lxr_shared_heap *heap;
 static __thread lxr_mutator *mutator;
+static int64_t between; /* bytes between two times that a thread's registers let go of what isn't needed */
+__thread int64_t memory_left;
 
 /* A code that tells a mistake of the interpreter, or a heap that can't go on. */
 __attribute__((noreturn, cold)) static void refuse(lxr_code code) {
@@ -42,8 +45,11 @@ bool memory_open(const MemoryOptions *options) {
     settings.every = LXR_MOST_EVERY; /* pauses come by what is made */
     settings.log = LOG;
     settings.pace = options->every ? options->every : quarter > LEAST_PACE ? quarter : LEAST_PACE;
+    settings.registers = options->registers;
+    between = (int64_t)(settings.pace / 4 > LEAST_PACE ? settings.pace / 4 : LEAST_PACE);
+    memory_left = between;
     if (options->pauses) settings.paused = note_pause;
-    return lxr_shared_heap_open(&heap, &settings) == LXR_OK && memory_enter();
+    return lxr_shared_heap_open(&heap, &settings) == LXR_OK && lxr_mutator_enter(heap, &mutator) == LXR_OK;
 }
 
 void memory_close(void) {
@@ -51,7 +57,22 @@ void memory_close(void) {
     want(lxr_shared_heap_close(&heap));
 }
 
-bool memory_enter(void) { return lxr_mutator_enter(heap, &mutator) == LXR_OK; }
+MemoryPlace *memory_place(void) {
+    lxr_mutator *other = NULL;
+    const lxr_code code = lxr_mutator_enter(heap, &other);
+    if (code != LXR_E_MEMORY) want(code);
+    return (MemoryPlace *)other;
+}
+
+void memory_forget(MemoryPlace *place) {
+    lxr_mutator *other = (lxr_mutator *)place;
+    want(lxr_mutator_leave(&other));
+}
+
+void memory_enter(MemoryPlace *place) {
+    mutator = (lxr_mutator *)place;
+    memory_left = between;
+}
 
 void memory_leave(void) { want(lxr_mutator_leave(&mutator)); }
 
@@ -65,6 +86,7 @@ bool memory_new(unsigned dest, unsigned references, unsigned words) {
     const lxr_code code = lxr_mutator_new(mutator, dest, references, words);
     if (code == LXR_E_FULL || code == LXR_E_USED_UP) return false;
     want(code);
+    memory_left -= FIELD_BYTES * (1 + (int64_t)references + words);
     return true;
 }
 
@@ -113,52 +135,56 @@ void memory_move(unsigned dest, unsigned source) { want(lxr_mutator_move(mutator
 
 void memory_nil(unsigned dest) { want(lxr_mutator_nil(mutator, dest)); }
 
+void memory_registers_in_use(unsigned count) { want(lxr_mutator_registers_in_use(mutator, count)); }
+
+void memory_pause(void) { memory_left = between; }
+
 bool memory_same(unsigned left, unsigned right) {
     uint32_t same;
     want(lxr_mutator_same(mutator, left, right, &same));
     return same;
 }
 
-/* A long string has one word of its own, and refers to parts. The spare register, which is nil, holds a part for a while. */
+/* A long string has one word of its own, and refers to parts. The register that is nil holds a part for a while. */
 bool memory_big(unsigned dest, unsigned blocks) {
     const size_t words = (size_t)blocks * BODY_BLOCK_WORDS, parts = (words + PART_WORDS - 1) / PART_WORDS;
     if (!memory_new(dest, (unsigned)parts, 1)) return false;
     for (size_t part = 0; part < parts; part++) {
         const size_t left = words - part * PART_WORDS;
-        if (!memory_new(SPARE_REGISTER, 0, (unsigned)(left < PART_WORDS ? left : PART_WORDS))) return false;
-        memory_store(dest, (unsigned)part, SPARE_REGISTER);
+        if (!memory_new(MEMORY_NIL, 0, (unsigned)(left < PART_WORDS ? left : PART_WORDS))) return false;
+        memory_store(dest, (unsigned)part, MEMORY_NIL);
     }
-    memory_nil(SPARE_REGISTER);
+    memory_nil(MEMORY_NIL);
     return true;
 }
 
-/* How many of some words from an index on are in its part, which the spare register holds then. */
+/* How many of some words from an index on are in its part, which the register that is nil holds then. */
 static size_t load_part(unsigned base, size_t index, size_t count) {
     const size_t left = PART_WORDS - index % PART_WORDS;
-    memory_load(SPARE_REGISTER, base, (unsigned)(index / PART_WORDS));
+    memory_load(MEMORY_NIL, base, (unsigned)(index / PART_WORDS));
     return count < left ? count : left;
 }
 
 void memory_read(unsigned base, size_t index, Word *into, size_t count) {
     while (count) {
         const size_t now = load_part(base, index, count);
-        memory_get_many(SPARE_REGISTER, (unsigned)(index % PART_WORDS), into, now);
+        memory_get_many(MEMORY_NIL, (unsigned)(index % PART_WORDS), into, now);
         index += now;
         into += now;
         count -= now;
     }
-    memory_nil(SPARE_REGISTER);
+    memory_nil(MEMORY_NIL);
 }
 
 void memory_write(unsigned base, size_t index, const Word *from, size_t count) {
     while (count) {
         const size_t now = load_part(base, index, count);
-        memory_put_many(SPARE_REGISTER, (unsigned)(index % PART_WORDS), from, now);
+        memory_put_many(MEMORY_NIL, (unsigned)(index % PART_WORDS), from, now);
         index += now;
         from += now;
         count -= now;
     }
-    memory_nil(SPARE_REGISTER);
+    memory_nil(MEMORY_NIL);
 }
 
 void memory_collect(void) { want(lxr_mutator_collect(mutator)); }

@@ -24,7 +24,7 @@ void make_real(Machine *machine, unsigned dest, double real) {
     static const uint32_t no_sources[1];
     const Word data[] = {REAL, word}; /* the first where an object says which value it is */
     machine_new_with(machine, dest, no_sources, 0, data + 1 - HEAD_WORDS, 1 + HEAD_WORDS);
-    machine_hold(machine, dest, REAL);
+    machine_set(machine, dest, REAL);
 }
 
 static double real_of(unsigned operand) {

@@ -180,7 +180,7 @@ static void make_port(Machine *machine, unsigned dest, Word port, unsigned strin
     machine_head(REGISTER_SCRATCH, port);
     if (string) machine_begin(machine, REGISTER_SCRATCH, PORT_STRING, string);
     memory_put(REGISTER_SCRATCH, PORT_USED + HEAD_WORDS, integer(0));
-    machine_hold(machine, REGISTER_SCRATCH, port);
+    machine_set(machine, REGISTER_SCRATCH, port);
     machine_move(machine, dest, REGISTER_SCRATCH);
 }
 
@@ -211,14 +211,24 @@ void get_output_string(Machine *machine, unsigned dest, unsigned port, unsigned 
 
 /* Input */
 
-/* The next byte of the standard input, which may have to be waited for. No other thread reads while it is put back. */
-static int read_byte(bool takes) {
+/* The standard input may have to be waited for, and no other thread reads from here .. */
+static void begin_reading(void) {
     memory_rest();
     flockfile(stdin);
-    const int byte = getchar();
-    if (byte != EOF && !takes) ungetc(byte, stdin);
+}
+
+/* .. to here. */
+static void end_reading(void) {
     funlockfile(stdin);
     memory_wake();
+}
+
+/* The next byte of the standard input. */
+static int read_byte(bool takes) {
+    begin_reading();
+    const int byte = getc(stdin);
+    if (byte != EOF && !takes) ungetc(byte, stdin);
+    end_reading();
     return byte;
 }
 
@@ -256,12 +266,15 @@ void peek_char(Machine *machine, unsigned dest, unsigned port, unsigned unused, 
 
 /* A string of what a port has up to some byte, which is left out, or of so many bytes; at the port's end there is none. */
 static void read_up_to(Machine *machine, const char *name, unsigned dest, unsigned port, int last, size_t most) {
+    const bool is_standard = machine->word[port] == STANDARD_INPUT;
     size_t length = 0;
     int byte = 0;
-    while (length < most && (byte = take_byte(machine, name, port)) != EOF && byte != last) {
+    if (is_standard) begin_reading(); /* of two threads each reads all that it reads here at once */
+    while (length < most && (byte = is_standard ? getc(stdin) : take_byte(machine, name, port)) != EOF && byte != last) {
         want_text(machine, length + 1);
         machine->text[length++] = (char)byte;
     }
+    if (is_standard) end_reading();
     if (byte == EOF && !length) {
         machine_set(machine, dest, END_OF_FILE);
     } else {

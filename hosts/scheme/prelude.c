@@ -527,8 +527,10 @@ const char *const prelude[] = {
     "(define (mutex-lock! m . rest)"
     "  (let* ((number (%record-ref m %mutex.number))"
     "         (t (if (or (null? rest) (null? (cdr rest))) %thread (car (cdr rest))))"
-    "         (told (%mutex-lock number (if t (%record-ref t %thread.number) 0) (if (null? rest) #f (%moment (car rest))))))"
-    "    (if (not (or (eq? t %thread) (eq? told 0))) (%record-set! m %mutex.owner t))"
+    "         (owner (if t (%record-ref t %thread.number) 0))"
+    "         (other? (if t (not (eq? t %thread)) #f))"
+    "         (told (%mutex-lock number (if other? (- owner) owner) (if (null? rest) #f (%moment (car rest))))))"
+    "    (if (and other? (not (eq? told 0))) (begin (%record-set! m %mutex.owner t) (%mutex-name-owner number)))"
     "    (if (eq? told 2) (%raise-error 'abandoned \"mutex-lock!: the mutex's owner has ended\" '()))"
     "    (eq? told 1)))",
     "(define (mutex-unlock! m . rest)"

@@ -274,6 +274,7 @@ const Primitive primitives[] = {
     CALL("%now", 0, 0, 0, threads_now),
     CALL("%new-number", 0, 0, 0, threads_new_number),
     CALL("%mutex-lock", 3, 3, 0, threads_lock),
+    CALL_EFFECT("%mutex-name-owner", 1, threads_name_owner),
     CALL_EFFECT("%mutex-unlock", 1, threads_unlock),
     CALL("%mutex-state", 1, 1, 0, threads_state),
     CALL("%mutex-wait", 3, 3, 0, threads_wait),

@@ -11,8 +11,13 @@ void record_new(Machine *machine, unsigned dest, unsigned field, unsigned unused
     (void)unused_too;
     const unsigned type = (unsigned)(number(machine->word[field]) / RECORD_FIELDS_MOST);
     const unsigned fields = PUBLISHED(program.records)[type].fields;
-    machine_make_empty(machine, dest, REFERENCE(KIND_RECORD, type), fields);
-    for (unsigned i = 0; i < fields; i++) memory_put(dest, i + HEAD_WORDS, FALSE);
+    uint32_t sources[OBJECT_MOST];
+    Word data[OBJECT_MOST];
+    for (unsigned i = 0; i < fields; i++) {
+        sources[i] = REGISTER_NIL;
+        data[i] = FALSE;
+    }
+    machine_make(machine, dest, REFERENCE(KIND_RECORD, type), sources, data, fields);
 }
 
 /* The procedure that runs is the accessor or the modifier, whose name a fault has. */
@@ -20,7 +25,7 @@ static unsigned want_field(const Machine *machine, unsigned record, unsigned fie
     const int64_t wanted = number(machine->word[field]);
     const int64_t type = wanted / RECORD_FIELDS_MOST;
     if (machine->word[record] == REFERENCE(KIND_RECORD, type)) return (unsigned)(wanted % RECORD_FIELDS_MOST);
-    const Symbol name = PUBLISHED(program.codes)[payload(machine->word[REGISTER_PROCEDURE])].name;
+    const Symbol name = PUBLISHED(program.codes)[payload(machine->word[machine->window + OWN_PROCEDURE])].name;
     machine_fault(machine, "%s: not of type %s", symbol_name(name), symbol_name(PUBLISHED(program.records)[type].name));
 }
 

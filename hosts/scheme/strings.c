@@ -82,7 +82,7 @@ static void make_string_object(const Machine *machine, unsigned dest, size_t len
 
 void make_string_room(Machine *machine, unsigned dest, size_t length) {
     make_string_object(machine, dest, length);
-    machine_hold(machine, dest, REFERENCE(KIND_STRING, length));
+    machine_set(machine, dest, REFERENCE(KIND_STRING, length));
 }
 
 void write_string_text(Machine *machine, unsigned string, size_t at, const char *bytes, size_t count) {
@@ -119,7 +119,7 @@ void make_string_of(Machine *machine, unsigned dest, const char *text, size_t le
         memcpy(chunk, text + from, bytes);
         write_words(dest, is_large(length), from / WORD_BYTES, chunk, words_of(bytes));
     }
-    machine_hold(machine, dest, REFERENCE(KIND_STRING, length));
+    machine_set(machine, dest, REFERENCE(KIND_STRING, length));
 }
 
 void make_string_of_text(Machine *machine, unsigned dest, size_t length) { make_string_of(machine, dest, machine->text, length); }

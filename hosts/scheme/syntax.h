@@ -21,6 +21,7 @@ typedef struct variable {
     unsigned place;         /* its register */
     struct variable *slots; /* it stands in a slot of what this variable holds, or is null */
     unsigned slot;
+    bool has_slots; /* it is such a one */
 } Variable;
 
 /* A procedure that is only called where its call is the last thing that its body, or the expression that begins it, does. */
@@ -33,7 +34,7 @@ typedef struct loop {
     bool is_open; /* it is compiled as a loop, not as a procedure */
     size_t start;
     unsigned places[ARGUMENTS_MOST]; /* of its variables */
-    unsigned live;                   /* the registers that it, and what is behind it, read */
+    Registers live;                  /* the registers that it, and what is behind it, read */
 } Loop;
 
 typedef enum node_kind {

@@ -58,28 +58,26 @@ static unsigned find_entry(unsigned entry, unsigned by, unsigned *index) {
 
 #ifndef THREADS
 
-/* The bit of a register that is to be let go of, unless it is the table's. */
-static unsigned held(unsigned part) { return part == REGISTER_TABLE ? 0 : 1u << part; }
-
 bool machine_get_entry(Machine *machine, unsigned dest, unsigned entry) {
     const Word word = program.table[entry];
     machine->word[dest] = word;
     if (is_reference(word)) {
         unsigned index;
-        const unsigned part = find_entry(entry, REGISTER_SCRATCH, &index);
+        const unsigned part = find_entry(entry, dest, &index);
         memory_load(dest, part, index);
-        machine->holding |= 1u << dest | held(part);
     }
     return word != UNDEFINED;
 }
+
+bool machine_is_defined(unsigned entry) { return program.table[entry] != UNDEFINED; }
 
 void machine_set_entry(Machine *machine, unsigned entry, unsigned source) {
     const bool has_reference = is_reference(machine->word[source]);
     if (has_reference || is_reference(program.table[entry])) {
         unsigned index;
-        const unsigned part = find_entry(entry, REGISTER_SCRATCH, &index);
+        const unsigned part = find_entry(entry, source == REGISTER_SCRATCH ? REGISTER_NIL : REGISTER_SCRATCH, &index);
         memory_store(part, index, has_reference ? source : REGISTER_NIL);
-        machine->holding |= held(part);
+        if (part == REGISTER_NIL) memory_nil(part);
     }
     program.table[entry] = machine->word[source];
 }
@@ -117,7 +115,6 @@ static void get_own(Machine *machine, unsigned dest, unsigned entry) {
     if (!is_reference(machine->own[entry])) return;
     machine_load_own(dest, machine->place);
     memory_load(dest, dest, entry);
-    machine->holding |= 1u << dest;
 }
 
 static void set_own(Machine *machine, unsigned entry, unsigned source) {
@@ -157,7 +154,6 @@ bool machine_get_entry(Machine *machine, unsigned dest, unsigned entry) {
     if (is_reference(word) || word == CHANGED) {
         const unsigned part = find_entry(entry, dest, &index);
         memory_load(dest, part, index);
-        machine->holding |= 1u << dest;
         word = word_of(entry); /* if it isn't CHANGED now, the reference wasn't either */
         Word head;
         if (word == CHANGED && memory_first(dest, &head)) word = head_value(head);
@@ -165,6 +161,8 @@ bool machine_get_entry(Machine *machine, unsigned dest, unsigned entry) {
     machine->word[dest] = word;
     return word != UNDEFINED && word != CLAIMED;
 }
+
+bool machine_is_defined(unsigned entry) { return entry < OWN_ENTRIES || (word_of(entry) != UNDEFINED && word_of(entry) != CLAIMED); }
 
 /* The first definition of an entry: others find it undefined until it is done. Whether this was the first. */
 static bool define_first(const Machine *machine, unsigned entry, unsigned source) {

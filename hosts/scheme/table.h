@@ -9,8 +9,18 @@
 /* A new entry, which is undefined. */
 unsigned machine_add_entry(Symbol name);
 
+/* The word of an entry that all threads have; of another one no value's. */
+static inline Word machine_entry_word(unsigned entry) {
+#ifdef THREADS
+    return entry < OWN_ENTRIES ? UNDEFINED : __atomic_load_n(&program.table[entry], __ATOMIC_SEQ_CST);
+#else
+    return program.table[entry];
+#endif
+}
+
 /* A register becomes an entry; whether that is defined. */
 bool machine_get_entry(Machine *machine, unsigned dest, unsigned entry);
+bool machine_is_defined(unsigned entry);
 
 /* An entry becomes what a register holds. */
 void machine_set_entry(Machine *machine, unsigned entry, unsigned source);

@@ -29,7 +29,7 @@
 enum { PLACES_MOST = 1024, BUCKETS = 1024, THREAD_ENDS = 256, FIRST_THREAD = 1 };
 
 typedef enum state { STATE_NEW, STATE_LIVE, STATE_ENDED } State;
-typedef enum wait { WAIT_END, WAIT_MUTEX, WAIT_CONDITION, WAIT_MOMENT } Wait;
+typedef enum wait { WAIT_END, WAIT_MUTEX, WAIT_NAME, WAIT_CONDITION, WAIT_MOMENT } Wait;
 
 typedef struct waiter {
     int64_t thread; /* its number */
@@ -42,7 +42,8 @@ typedef struct waiter {
     struct waiter *before, *behind;
 } Waiter;
 
-/* A mutex that is locked, or whose owner has ended. */
+/* A mutex that is locked, or whose owner has ended. Where another thread than the one that locks it becomes its owner, the mutex's record
+ * says which right after it is locked; until then the owner's number is below 0, and nobody unlocks it or asks whose it is. */
 typedef struct mutex {
     struct mutex *next;
     int64_t number, owner; /* 0: no thread */
@@ -159,6 +160,7 @@ static bool wait_for(Machine *machine, Wait wait, int64_t of, const struct times
 /* The thread rests, and the lock is held from here .. */
 static void begin_rest(Machine *machine) {
     machine->waiter->at = machine_position(machine);
+    machine_let_go(machine); /* it may wait long */
     memory_rest();
     pthread_mutex_lock(&lock);
 }
@@ -243,7 +245,7 @@ void threads_new(Machine *machine, unsigned dest, unsigned unused, unsigned unus
 static void abandon_mutexes(int64_t thread) {
     for (unsigned bucket = 0; bucket < BUCKETS; bucket++) {
         for (Mutex *mutex = mutexes[bucket]; mutex; mutex = mutex->next) {
-            if (mutex->owner != thread) continue;
+            if (mutex->owner != thread && mutex->owner != -thread) continue;
             mutex->owner = 0;
             mutex->is_abandoned = true;
             wake(WAIT_MUTEX, mutex->number, true);
@@ -266,23 +268,24 @@ static void leave_threads(int64_t thread, unsigned place) {
 
 static void end_by_fault(void) { end_program(1); }
 
+static void free_machine(Machine *machine) {
+    free_waiter(machine->waiter);
+    free(machine->text);
+    free(machine->trouble);
+    free(machine);
+}
+
 static void *be_thread(void *with) {
     Machine *const machine = with;
     const int64_t thread = machine->waiter->thread;
     const unsigned place = machine->place;
     fault_ends_by(end_by_fault);
-    if (!memory_enter()) {
-        fputs("scheme: the machine has no memory for a further thread\n", stderr);
-        end_program(1);
-    }
+    memory_enter(machine->registers);
     machine_run_thread(machine);
     if (machine->exit_status >= 0 && machine->exit_status != THREAD_ENDS) end_program(machine->exit_status);
     machine_set_own(place, REGISTER_NIL);
     memory_leave();
-    free_waiter(machine->waiter);
-    free(machine->text);
-    free(machine->trouble);
-    free(machine);
+    free_machine(machine);
     leave_threads(thread, place);
     return NULL;
 }
@@ -290,8 +293,9 @@ static void *be_thread(void *with) {
 /* A machine of a new thread. */
 static Machine *new_machine(const Machine *by, int64_t thread) {
     Machine *const machine = memset(more_memory(NULL, sizeof *machine), 0, sizeof *machine);
-    memcpy(machine->word + REGISTERS, by->word + REGISTERS, (OPERANDS - REGISTERS) * sizeof *machine->word);
-    machine->operands = by->operands;
+    memcpy(machine->word + REGISTERS, by->word + REGISTERS, CONSTANTS * sizeof *machine->word);
+    machine->constants = by->constants;
+    machine->end = by->end;
     machine->output = stdout;
     machine->exit_status = -1;
     machine->trouble = more_memory(NULL, sizeof *machine->trouble);
@@ -301,16 +305,19 @@ static Machine *new_machine(const Machine *by, int64_t thread) {
     return machine;
 }
 
-static void start_system_thread(Machine *machine) {
+/* Starts a thread of the system, which has registers; whether there is one. */
+static bool start_system_thread(Machine *machine) {
     pthread_attr_t attributes;
     pthread_t started;
     pthread_attr_init(&attributes);
     pthread_attr_setdetachstate(&attributes, PTHREAD_CREATE_DETACHED);
-    const int code = pthread_create(&started, &attributes, be_thread, machine);
+    memory_rest(); /* a pause waits for the other's registers, and so may this thread */
+    MemoryPlace *const registers = machine->registers = memory_place();
+    const bool is_started = registers && !pthread_create(&started, &attributes, be_thread, machine); /* which frees the machine */
+    if (registers && !is_started) memory_forget(registers);
+    memory_wake();
     pthread_attr_destroy(&attributes);
-    if (!code) return;
-    fputs("scheme: the system starts no further thread\n", stderr);
-    end_program(1);
+    return is_started;
 }
 
 /* A place for a thread that begins, or 0 where there are as many as may be, or it has begun before. */
@@ -329,13 +336,22 @@ static unsigned take_place(int64_t thread, bool *is_new) {
     return place;
 }
 
+/* The thread didn't begin after all, and may yet. */
+static void give_back_place(int64_t thread, unsigned place) {
+    pthread_mutex_lock(&lock);
+    states[thread] = STATE_NEW;
+    places[place] = 0;
+    live--;
+    running--;
+    pthread_mutex_unlock(&lock);
+}
+
 void threads_start(Machine *machine, unsigned dest, unsigned record, unsigned number_operand, unsigned unused) {
     const int64_t thread = number(machine->word[number_operand]);
     bool is_new;
     UNUSED(dest);
     UNUSED(unused);
     machine_new(machine, REGISTER_SCRATCH, OWN_ENTRIES, 1);
-    machine->holding |= 1u << REGISTER_SCRATCH;
     memory_store(REGISTER_SCRATCH, OWN_THREAD, record);
     const unsigned place = take_place(thread, &is_new);
     if (!is_new) machine_fault(machine, "thread-start!: the thread has begun before");
@@ -346,7 +362,11 @@ void threads_start(Machine *machine, unsigned dest, unsigned record, unsigned nu
     begun->place = place;
     begun->called_at = machine->called_at;
     begun->own[OWN_THREAD] = machine->word[record];
-    start_system_thread(begun);
+    if (start_system_thread(begun)) return;
+    free_machine(begun);
+    machine_set_own(place, REGISTER_NIL);
+    give_back_place(thread, place);
+    machine_fault(machine, "thread-start!: the system has no further thread");
 }
 
 void threads_end(Machine *machine, unsigned dest, unsigned unused, unsigned unused_too, unsigned unused_as_well) {
@@ -388,10 +408,9 @@ void threads_find(Machine *machine, unsigned dest, unsigned number_operand, unsi
     machine_set(machine, dest, FALSE);
     if (place == PLACES_MOST) return;
     machine_load_own(REGISTER_SCRATCH, place);
-    machine->holding |= 1u << REGISTER_SCRATCH;
     if (!memory_first(REGISTER_SCRATCH, &word)) return;
     memory_load(dest, REGISTER_SCRATCH, OWN_THREAD);
-    machine_hold(machine, dest, machine->own[OWN_THREAD]); /* the word is the same for all threads */
+    machine_set(machine, dest, machine->own[OWN_THREAD]); /* the word is the same for all threads */
 }
 
 void threads_yield(Machine *machine, unsigned dest, unsigned unused, unsigned unused_too, unsigned unused_as_well) {
@@ -462,7 +481,7 @@ static unsigned try_lock(int64_t of, int64_t owner) {
     const bool was_abandoned = *at;
     if (!*at) add_mutex(at, of, owner);
     (*at)->owner = owner;
-    (*at)->is_abandoned = owner && states[owner] == STATE_ENDED;
+    (*at)->is_abandoned = owner && states[owner < 0 ? -owner : owner] == STATE_ENDED;
     return was_abandoned ? LOCKED_ABANDONED : LOCKED;
 }
 
@@ -484,6 +503,28 @@ void threads_lock(Machine *machine, unsigned dest, unsigned number_operand, unsi
     machine_set(machine, dest, integer(locked));
 }
 
+static bool is_named_later(int64_t of) {
+    const Mutex *const mutex = *find_mutex(of);
+    return mutex && mutex->owner < 0;
+}
+
+/* The thread rests. */
+static void wait_for_name(Machine *machine, int64_t of) {
+    while (is_named_later(of)) wait_for(machine, WAIT_NAME, of, NULL);
+}
+
+void threads_name_owner(Machine *machine, unsigned dest, unsigned number_operand, unsigned unused, unsigned unused_too) {
+    UNUSED(dest);
+    UNUSED(unused);
+    UNUSED(unused_too);
+    const int64_t of = number(machine->word[number_operand]);
+    pthread_mutex_lock(&lock);
+    Mutex *const mutex = *find_mutex(of);
+    if (mutex && mutex->owner < 0) mutex->owner = -mutex->owner;
+    wake(WAIT_NAME, of, true);
+    pthread_mutex_unlock(&lock);
+}
+
 static void unlock_mutex(int64_t of) {
     Mutex **const at = find_mutex(of);
     if (!*at) return;
@@ -495,18 +536,27 @@ void threads_unlock(Machine *machine, unsigned dest, unsigned number_operand, un
     UNUSED(dest);
     UNUSED(unused);
     UNUSED(unused_too);
+    const int64_t of = number(machine->word[number_operand]);
     pthread_mutex_lock(&lock);
-    unlock_mutex(number(machine->word[number_operand]));
+    const bool waits = is_named_later(of);
+    if (!waits) unlock_mutex(of);
     pthread_mutex_unlock(&lock);
+    if (!waits) return;
+    begin_rest(machine);
+    wait_for_name(machine, of);
+    unlock_mutex(of);
+    end_rest();
 }
 
 void threads_state(Machine *machine, unsigned dest, unsigned number_operand, unsigned unused, unsigned unused_too) {
     UNUSED(unused);
     UNUSED(unused_too);
-    pthread_mutex_lock(&lock);
-    const Mutex *const mutex = *find_mutex(number(machine->word[number_operand]));
+    const int64_t of = number(machine->word[number_operand]);
+    begin_rest(machine);
+    wait_for_name(machine, of);
+    const Mutex *const mutex = *find_mutex(of);
     const Word word = !mutex ? FALSE : mutex->is_abandoned ? TRUE : integer(mutex->owner);
-    pthread_mutex_unlock(&lock);
+    end_rest();
     machine_set(machine, dest, word);
 }
 
@@ -515,6 +565,7 @@ void threads_wait(Machine *machine, unsigned dest, unsigned number_operand, unsi
     const int64_t of = number(machine->word[number_operand]), condition = number(machine->word[condition_operand]);
     const bool is_timed = has_moment(machine, moment_operand, &moment);
     begin_rest(machine);
+    wait_for_name(machine, of);
     unlock_mutex(of);
     const bool came = wait_for(machine, WAIT_CONDITION, condition, is_timed ? &moment : NULL);
     end_rest();

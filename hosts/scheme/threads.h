@@ -26,10 +26,11 @@ PrimitiveFunction threads_limit, /* how many threads may be beside the first at 
     threads_sleep,               /* waits until a moment */
     threads_now,                 /* the moment */
     threads_new_number,          /* the number of a new mutex or condition variable */
-    threads_lock,   /* a mutex becomes a thread's, or no thread's (0), by a moment: 1, or 2 where its owner had ended, or else 0 */
-    threads_unlock, /* a mutex is nobody's */
-    threads_state,  /* a mutex's owner, 0 where it has none but is locked, #f where it isn't, #t where its owner has ended */
-    threads_wait,   /* the same, and waits for a condition until a moment; whether it came */
-    threads_signal; /* a condition comes to one that waits, or to all */
+    threads_lock,       /* a mutex becomes a thread's, or no thread's (0), by a moment: 1, or 2 where its owner had ended, or else 0 */
+    threads_name_owner, /* the mutex's record says whose it is, where the thread's number was given below 0 */
+    threads_unlock,     /* a mutex is nobody's */
+    threads_state,      /* a mutex's owner, 0 where it has none but is locked, #f where it isn't, #t where its owner has ended */
+    threads_wait,       /* the same, and waits for a condition until a moment; whether it came */
+    threads_signal;     /* a condition comes to one that waits, or to all */
 
 #endif

@@ -79,6 +79,9 @@ static inline Word integer(int64_t number) { return (Word)number << 2; }
 
 static inline int64_t number(Word word) { return (int64_t)word >> 2; }
 
+/* A procedure that captures nothing, which is a word alone. */
+static inline bool is_code(Word word) { return (uint8_t)word == (uint8_t)PLAIN(KIND_PROCEDURE, 0); }
+
 /* The word of all records of a type. */
 static inline Word record_of_type(Word type) { return type ^ TAG_PLAIN ^ TAG_REFERENCE; }
 

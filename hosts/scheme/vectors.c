@@ -14,17 +14,14 @@ static size_t element_of(const Machine *machine, const char *name, unsigned vect
     return want_index(machine, name, machine->word[index], payload(word));
 }
 
-static void load_part(Machine *machine, unsigned vector, size_t element) {
-    memory_load(REGISTER_SCRATCH, vector, (unsigned)(element / FIELDS_MOST));
-    machine->holding |= 1u << REGISTER_SCRATCH;
-}
+static void load_part(unsigned vector, size_t element) { memory_load(REGISTER_SCRATCH, vector, (unsigned)(element / FIELDS_MOST)); }
 
 void vector_ref(Machine *machine, unsigned dest, unsigned vector, unsigned index) {
     const size_t element = element_of(machine, "vector-ref", vector, index);
     if (payload(machine->word[vector]) <= FIELDS_MOST) {
         machine_load(machine, dest, vector, (unsigned)element);
     } else {
-        load_part(machine, vector, element);
+        load_part(vector, element);
         machine_load(machine, dest, REGISTER_SCRATCH, (unsigned)(element % FIELDS_MOST));
     }
 }
@@ -34,7 +31,7 @@ void vector_set(Machine *machine, unsigned vector, unsigned index, unsigned valu
     if (payload(machine->word[vector]) <= FIELDS_MOST) {
         machine_store(machine, vector, (unsigned)element, value);
     } else {
-        load_part(machine, vector, element);
+        load_part(vector, element);
         machine_store(machine, REGISTER_SCRATCH, (unsigned)(element % FIELDS_MOST), value);
     }
 }
@@ -59,6 +56,10 @@ static void make_part(Machine *machine, unsigned dest, unsigned length, unsigned
 void make_vector(Machine *machine, unsigned dest, unsigned length_operand, unsigned fill, unsigned unused) {
     (void)unused;
     const size_t length = want_index(machine, "make-vector", machine->word[length_operand], VECTOR_MOST + 1);
+    if (length <= FIELDS_MOST && dest != fill) {
+        make_part(machine, dest, (unsigned)length, fill);
+        return;
+    }
     if (length <= FIELDS_MOST) {
         make_part(machine, REGISTER_SCRATCH, (unsigned)length, fill);
     } else {
@@ -72,7 +73,7 @@ void make_vector(Machine *machine, unsigned dest, unsigned length_operand, unsig
         }
         memory_move(REGISTER_SCRATCH, REGISTER_NIL);
         memory_nil(REGISTER_NIL);
-        machine_hold(machine, REGISTER_SCRATCH, REFERENCE(KIND_VECTOR, length));
+        machine_set(machine, REGISTER_SCRATCH, REFERENCE(KIND_VECTOR, length));
     }
     machine_move(machine, dest, REGISTER_SCRATCH);
 }
