@@ -87,6 +87,9 @@ void begin_fault(Machine *machine, unsigned dest, unsigned at, unsigned unused, 
     const int64_t where = number(machine->word[at]);
     fault_begin((Position){.line = (uint32_t)(where >> COLUMN_BITS), .column = (uint32_t)(where & ((1 << COLUMN_BITS) - 1))});
     machine->output = stderr;
+#ifdef THREADS
+    machine->is_busy = true;
+#endif
 }
 
 void end_fault(Machine *machine, unsigned dest, unsigned unused, unsigned unused_too, unsigned unused_as_well) {

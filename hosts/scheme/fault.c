@@ -13,10 +13,12 @@ jmp_buf fault_exit;
 #ifdef THREADS
 #include "memory.h"
 #include <sched.h>
+#include <unistd.h>
 
 static __thread void (*ends)(void);
 static __thread bool tells; /* this thread tells a fault .. */
 static bool is_told;        /* .. or some thread does */
+static bool is_over;        /* a thread ends the program, and no other does */
 
 /* One fault is told at a time, and where it ends the program no other is. A thread that waits for that rests. */
 static void begin_telling(void) {
@@ -28,18 +30,39 @@ static void begin_telling(void) {
     tells = true;
 }
 
-static void end_telling(void) {
+/* The thread that calls ends the program, or where another one does goes no further. */
+static void end_alone(void) {
+    while (__atomic_exchange_n(&is_over, true, __ATOMIC_ACQUIRE)) pause();
+}
+
+void fault_forget(void) {
     tells = false;
     __atomic_store_n(&is_told, false, __ATOMIC_RELEASE);
 }
 
-void fault_no_more(void) { begin_telling(); }
+void fault_no_more(void) {
+    begin_telling();
+    end_alone();
+}
+
+/* The thread may rest or not, and may hold a lock, so it waits for no other. */
+void fault_at_once(const char *text) {
+    end_alone();
+    fflush(stdout);
+    fprintf(stderr, "scheme: %s\n", text);
+    _exit(1);
+}
 #else
 static void (*ends)(void);
 
 static void begin_telling(void) {}
 
-static void end_telling(void) {}
+void fault_forget(void) {}
+
+void fault_at_once(const char *text) {
+    fprintf(stderr, "scheme: %s\n", text);
+    exit(1);
+}
 #endif
 static const char *source = "scheme";
 
@@ -60,7 +83,6 @@ void fault_begin(Position at) {
 void fault_end(void) {
     fputc('\n', stderr);
     if (ends) ends();
-    end_telling();
     longjmp(fault_exit, 1);
 }
 
@@ -75,9 +97,6 @@ void fault(Position at, const char *format, ...) {
 
 void *more_memory(void *old, size_t bytes) {
     void *const grown = realloc(old, bytes);
-    if (!grown) {
-        fputs("scheme: the machine has no memory left\n", stderr);
-        exit(1);
-    }
+    if (!grown) fault_at_once("the machine has no memory left");
     return grown;
 }

@@ -16,18 +16,23 @@ typedef struct position {
 /* Names the source in which faults stand from now on. */
 void fault_source(const char *name);
 
-/* Where a fault of the first thread goes to, once it is told. */
+/* Where a fault of the first thread goes to, once it is told. Other threads tell none until the program ends, or goes on by fault_forget.
+ */
 extern jmp_buf fault_exit;
+void fault_forget(void);
 
 /* A fault of the thread that calls does this instead, which doesn't come back. */
 void fault_ends_by(void (*end)(void));
 
-/* Writes `SOURCE:LINE:COLUMN: ` to the standard error output. Other threads tell no fault until this one ends. */
+/* Writes `SOURCE:LINE:COLUMN: ` to the standard error output. Other threads tell no fault meanwhile. */
 void fault_begin(Position at);
 __attribute__((noreturn)) void fault_end(void);
 
+/* Tells what no program can go on from, and ends the program with status 1. */
+__attribute__((noreturn)) void fault_at_once(const char *text);
+
 #ifdef THREADS
-/* Other threads tell no fault from here on. One that tells one now ends the program first. */
+/* The thread that calls ends the program, and no other tells a fault from here on. One that tells one now ends the program first. */
 void fault_no_more(void);
 #endif
 

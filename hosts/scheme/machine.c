@@ -5,6 +5,9 @@
 #include "primitives.h"
 #include "stack.h"
 #include "table.h"
+#ifdef THREADS
+#include "threads.h"
+#endif
 #include <stdarg.h>
 #include <stdlib.h>
 #include <string.h>
@@ -412,7 +415,7 @@ static unsigned make_closure(Machine *machine, Instruction closure, const Instru
         window = machine->window; \
     } while (0)
 
-/* A loop may make no call of the heap, and others may wait for a pause: so it asks now and then. */
+/* A loop may make no call of the heap, and others may wait for a pause, or for the thread's end: so it asks now and then. */
 #ifdef THREADS
 enum { PATIENCE = 1000 };
 #define POLL() \
@@ -420,6 +423,7 @@ enum { PATIENCE = 1000 };
         if (!--patience) { \
             patience = PATIENCE; \
             memory_poll(); \
+            if (threads_end_here(machine)) return; \
         } \
     } while (0)
 #else

@@ -194,6 +194,7 @@ typedef struct machine {
     unsigned place;         /* where what these refer to stands in the directory */
     MemoryPlace *registers; /* which the thread has as it begins */
     struct waiter *waiter;  /* threads.c */
+    bool is_busy;           /* it is about what another thread would wait for in vain, so it ends only after that */
 #endif
 } Machine;
 

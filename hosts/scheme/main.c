@@ -225,6 +225,7 @@ static void run_prompt(Machine *machine) {
     char line[4096];
     fault_source("prompt");
     if (setjmp(fault_exit)) {
+        fault_forget();
         machine_reset(machine);
     }
     forget_typed(&prompt);
@@ -349,9 +350,7 @@ static bool tells_pauses;
 
 /* Ends the program from any thread; others go on until it is over. The first that calls ends it, but for one that tells a fault. */
 static void end_program(int status) {
-    static bool ends;
     fault_no_more();
-    while (__atomic_exchange_n(&ends, true, __ATOMIC_ACQUIRE)) pause();
     if (is_output_lost()) status = 1;
     if (tells_pauses) memory_report(stderr);
     _exit(status);

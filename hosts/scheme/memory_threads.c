@@ -5,6 +5,7 @@
  * Pauses come by the heap's own pace, at any call, and so registers let go of what isn't needed several times between two of them. There
  * are no large objects, so a long string is an object of parts.
  */
+#include "fault.h"
 #include "memory.h"
 #include "pauses.h"
 #include <lxr_threads.h>
@@ -19,11 +20,8 @@ __thread int64_t memory_left;
 
 /* A code that tells a mistake of the interpreter, or a heap that can't go on. */
 __attribute__((noreturn, cold)) static void refuse(lxr_code code) {
-    if (code == LXR_E_LOST || code == LXR_E_USED_UP) {
-        fflush(stdout);
-        fputs(code == LXR_E_LOST ? "scheme: the machine has no memory left\n" : "scheme: the heap is full\n", stderr);
-        _Exit(1);
-    }
+    if (code == LXR_E_LOST) fault_at_once("the machine has no memory left");
+    if (code == LXR_E_USED_UP) fault_at_once("the heap is full");
     fprintf(stderr, "scheme: the heap refused a call, with code %u\n", (unsigned)code);
     abort();
 }

@@ -9,6 +9,7 @@
 #include "decimal.h"
 #include "primitives.h"
 #include "reader.h"
+#include <ctype.h>
 #include <string.h>
 
 enum { PORT_STRING = 0, PORT_USED = 1, LEAST_ROOM = 64 };
@@ -286,6 +287,105 @@ void read_line(Machine *machine, unsigned dest, unsigned port, unsigned unused, 
     UNUSED(unused);
     UNUSED(unused_too);
     read_up_to(machine, "read-line", dest, port, '\n', SIZE_MAX);
+}
+
+/* The machine's text gets the next byte of the standard input. */
+static int add_byte(Machine *machine, size_t *length) {
+    const int byte = getc(stdin);
+    if (byte == EOF) return EOF;
+    want_text(machine, *length + 1);
+    machine->text[(*length)++] = (char)byte;
+    return byte;
+}
+
+/* The byte that is read next, which is added where it is this one. */
+static bool add_if(Machine *machine, size_t *length, int wanted) {
+    const int byte = getc(stdin);
+    if (byte == EOF) return false;
+    ungetc(byte, stdin);
+    if (byte == wanted) add_byte(machine, length);
+    return byte == wanted;
+}
+
+/* Up to a mark, but for one that is escaped. */
+static void add_up_to(Machine *machine, size_t *length, int mark, int escape) {
+    int byte;
+    while ((byte = add_byte(machine, length)) != EOF && byte != mark) {
+        if (byte == escape) add_byte(machine, length);
+    }
+}
+
+/* What is left of a comment, within which others may stand. */
+static void add_block(Machine *machine, size_t *length) {
+    int byte, before = ' ';
+    for (unsigned depth = 1; depth && (byte = add_byte(machine, length)) != EOF; before = byte) {
+        const bool ends = before == '|' && byte == '#', begins = before == '#' && byte == '|';
+        depth = depth - ends + begins;
+        if (ends || begins) byte = ' ';
+    }
+}
+
+static void add_token(Machine *machine, size_t *length) {
+    static const char others[] = {'(', ')', '"', ';', '\'', '`', ',', '|'};
+    for (int byte = getc(stdin); byte != EOF; byte = getc(stdin)) {
+        ungetc(byte, stdin);
+        if (isspace(byte) || memchr(others, byte, sizeof others)) return;
+        add_byte(machine, length);
+    }
+}
+
+/* What is added may begin a datum, or a list of some, end one, or be none. */
+typedef enum part { PART_NONE, PART_DATUM, PART_BEGIN, PART_END, PART_TWO, PART_LAST } Part;
+
+static Part add_hashed(Machine *machine, size_t *length) {
+    if (add_if(machine, length, ';')) return PART_TWO; /* a datum that is none, and the next one */
+    if (add_if(machine, length, '(')) return PART_BEGIN;
+    if (add_if(machine, length, '|')) {
+        add_block(machine, length);
+        return PART_NONE;
+    }
+    if (add_if(machine, length, '\\')) add_byte(machine, length);
+    add_token(machine, length);
+    return PART_DATUM;
+}
+
+static Part add_part(Machine *machine, size_t *length) {
+    const int byte = add_byte(machine, length);
+    switch (byte) {
+    case EOF: return PART_LAST;
+    case '(': return PART_BEGIN;
+    case ')': return PART_END;
+    case '#': return add_hashed(machine, length);
+    case '\'':
+    case '`': return PART_NONE;
+    case ',': add_if(machine, length, '@'); return PART_NONE;
+    case ';': add_up_to(machine, length, '\n', EOF); return PART_NONE;
+    case '"':
+    case '|': add_up_to(machine, length, byte, '\\'); return PART_DATUM;
+    default:
+        if (isspace(byte)) return PART_NONE;
+        add_token(machine, length);
+        return PART_DATUM;
+    }
+}
+
+/* A string of the next datum of the standard input, with what stands before it. Of two threads each takes a whole one. */
+void datum_text(Machine *machine, unsigned dest, unsigned unused, unsigned unused_too, unsigned unused_as_well) {
+    size_t length = 0, depth = 0, wanted = 1;
+    UNUSED(unused);
+    UNUSED(unused_too);
+    UNUSED(unused_as_well);
+    begin_reading();
+    while (wanted) {
+        const Part part = add_part(machine, &length);
+        if (part == PART_LAST || (part == PART_END && !depth)) break;
+        if (part == PART_BEGIN) depth++;
+        if (part == PART_END) depth--;
+        if (!depth && part == PART_TWO) wanted++;
+        if (!depth && (part == PART_DATUM || part == PART_END)) wanted--;
+    }
+    end_reading();
+    make_string_of_text(machine, dest, length);
 }
 
 void read_string(Machine *machine, unsigned dest, unsigned count, unsigned port, unsigned unused) {

@@ -13,7 +13,8 @@ const char *const prelude[] = {
     "(define (%fold step first rest) (if (null? rest) first (%fold step (step first (car rest)) (cdr rest))))",
     "(define (+ . xs) (%fold (lambda (a b) (+ a b)) 0 xs))",
     "(define (* . xs) (%fold (lambda (a b) (* a b)) 1 xs))",
-    "(define (- x . xs) (if (null? xs) (* -1 x) (%fold (lambda (a b) (- a b)) x xs)))",
+    "(define (%negate x) (if (and (number? x) (= x 0)) (* -1 x) (- 0 x)))", /* 0.0 becomes -0.0 */
+    "(define (- x . xs) (if (null? xs) (%negate x) (%fold (lambda (a b) (- a b)) x xs)))",
     "(define (/ x . xs) (if (null? xs) (/ 1 x) (%fold (lambda (a b) (/ a b)) x xs)))",
     "(define (min x . xs) (%fold (lambda (a b) (min a b)) x xs))",
     "(define (max x . xs) (%fold (lambda (a b) (max a b)) x xs))",
@@ -264,7 +265,9 @@ const char *const prelude[] = {
     "(define (close-output-port port) (if #f #f))",
     "(define (call-with-port port use) (use port))",
     "(define (read . port)"
-    "  (let ((x (%read (%input-of port)))) (if (eq? x %dot) (%read-fault \"read: a dot where none can stand\") x)))",
+    "  (let ((x (%read (%source-of (%input-of port))))) (if (eq? x %dot) (%read-fault \"read: a dot where none can stand\") x)))",
+    /* a datum of the standard input is taken at once, whoever reads there besides */
+    "(define (%source-of port) (if (eq? port %input) (open-input-string (%datum-text)) port))",
     "(define (%read-fault what) (%raise-error 'read what '()))",
     "(define (%skip-line port)"
     "  (let ((c (read-char port))) (if (not (or (eof-object? c) (char=? c #\\newline))) (%skip-line port))))",
@@ -492,19 +495,27 @@ const char *const prelude[] = {
     "  (%record-set! %thread %thread.failed-at at)"
     "  (%thread-end))",
     "(define (thread-join! t . rest)"
-    "  (cond ((not (%thread-join (%record-ref t %thread.number) (%moment (if (null? rest) #f (car rest)))))"
-    "         (if (or (null? rest) (null? (cdr rest))) (%raise-error 'join-timeout \"thread-join!: the thread goes on\" '())"
-    "             (car (cdr rest))))"
-    "        ((%record-ref t %thread.failed-at)"
-    "         (%raise-error 'uncaught (%failed (%record-ref t %thread.failed-at)) (list (%record-ref t %thread.result))))"
-    "        (else (%record-ref t %thread.result))))",
+    "  (let ((told (%thread-join (%record-ref t %thread.number) (%moment (if (null? rest) #f (car rest))))))"
+    "    (cond ((eq? told 0)"
+    "           (if (or (null? rest) (null? (cdr rest))) (%raise-error 'join-timeout \"thread-join!: the thread goes on\" '())"
+    "               (car (cdr rest))))"
+    "          ((eq? told 2) (%raise-error 'terminated \"thread-join!: the thread was terminated\" '()))"
+    "          ((%record-ref t %thread.failed-at)"
+    "           (%raise-error 'uncaught (%failed (%record-ref t %thread.failed-at)) (list (%record-ref t %thread.result))))"
+    "          (else (%record-ref t %thread.result)))))",
+    /* the end of the first thread is that of the program */
+    "(define (thread-terminate! t)"
+    "  (let ((number (%record-ref t %thread.number)))"
+    "    (if (eq? number 1)"
+    "        (%tell (%make-error 'terminated \"thread-terminate!: the first thread was terminated\" '() (%position)) #f)"
+    "        (%thread-terminate number))))",
     "(define (%failed at)"
     "  (let ((line (quotient at 536870912)) (column (remainder at 536870912)))"
     "    (if (= line 0) \"the thread's error:\""
     "        (string-append \"the thread's error at \" (number->string line) \":\" (number->string column) \":\"))))",
     "(define (join-timeout-exception? x) (%is-error? x 'join-timeout))",
     "(define (abandoned-mutex-exception? x) (%is-error? x 'abandoned))",
-    "(define (terminated-thread-exception? x) #f)",
+    "(define (terminated-thread-exception? x) (%is-error? x 'terminated))",
     "(define (uncaught-exception? x) (%is-error? x 'uncaught))",
     "(define (uncaught-exception-reason x)"
     "  (if (uncaught-exception? x) (car (error-object-irritants x)) (error \"uncaught-exception-reason: not of a thread\" x)))",

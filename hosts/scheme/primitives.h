@@ -65,7 +65,7 @@ PrimitiveFunction record_new, record_ref, record_set;
 
 /* ports.c; the first writes a value that is neither a pair nor a vector, and whether as a source has it */
 PrimitiveFunction write_atom, write_char, open_input_string, open_output_string, get_output_string, read_char, peek_char, read_line,
-    read_string, named_character, is_input_port, is_output_port;
+    read_string, datum_text, named_character, is_input_port, is_output_port;
 
 /* strings.c */
 PrimitiveFunction make_string, string_length, string_ref, string_set, string_append, substring, string_equal, string_less, symbol_to_string,

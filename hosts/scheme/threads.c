@@ -11,6 +11,8 @@
  *
  * A thread that waits without a last moment can be woken by another thread alone. So where the last one that doesn't wait so is about to,
  * or ends, all wait for each other. That is told, and where: at the call by which the first thread waits, if it does.
+ *
+ * A thread that another one terminates ends by itself: where it waits, or is about to, or where it asks whether a pause is wanted.
  */
 #define _POSIX_C_SOURCE 200809L
 #include "threads.h"
@@ -26,9 +28,9 @@
 /* What a function does not ask for. */
 #define UNUSED(operand) (void)(operand)
 
-enum { PLACES_MOST = 1024, BUCKETS = 1024, THREAD_ENDS = 256, FIRST_THREAD = 1 };
+enum { PLACES_MOST = 1024, BUCKETS = 1024, THREAD_ENDS = 256, THREAD_TERMINATED, FIRST_THREAD = 1 };
 
-typedef enum state { STATE_NEW, STATE_LIVE, STATE_ENDED } State;
+typedef enum state { STATE_NEW, STATE_LIVE, STATE_ENDED, STATE_TERMINATED } State;
 typedef enum wait { WAIT_END, WAIT_MUTEX, WAIT_NAME, WAIT_CONDITION, WAIT_MOMENT } Wait;
 
 typedef struct waiter {
@@ -56,7 +58,8 @@ static unsigned most, live;   /* threads beside the first: that may be, and that
 static unsigned running;      /* threads that don't wait, or wait until a moment */
 static unsigned char *states; /* of threads, by their numbers */
 static int64_t thread_count, thread_room, number_count;
-static int64_t places[PLACES_MOST]; /* the numbers of threads by where they stand in the directory; 0: none */
+static int64_t places[PLACES_MOST];     /* the numbers of threads by where they stand in the directory; 0: none */
+static bool is_terminated[PLACES_MOST]; /* whether the thread that stands there is to end */
 static Waiter *first_waiter, *last_waiter;
 static Mutex *mutexes[BUCKETS], *free_mutexes;
 
@@ -133,9 +136,11 @@ __attribute__((noreturn)) static void tell_all_wait(void) {
     abort();
 }
 
-/* Waits for something, until a moment if there is one; whether it came. The thread rests, and the lock is held but while it waits. */
+/* Waits for something, until a moment if there is one; whether it came, and the thread isn't to end. It rests, and the lock is held but
+ * while it waits. */
 static bool wait_for(Machine *machine, Wait wait, int64_t of, const struct timespec *moment) {
     Waiter *const waiter = machine->waiter;
+    if (is_terminated[machine->place]) return false;
     waiter->wait = wait;
     waiter->of = of;
     waiter->is_timed = moment != NULL;
@@ -154,7 +159,7 @@ static bool wait_for(Machine *machine, Wait wait, int64_t of, const struct times
             return false;
         }
     }
-    return true;
+    return !is_terminated[machine->place];
 }
 
 /* The thread rests, and the lock is held from here .. */
@@ -166,9 +171,16 @@ static void begin_rest(Machine *machine) {
 }
 
 /* .. to here. */
-static void end_rest(void) {
+static void end_rest(Machine *machine) {
     pthread_mutex_unlock(&lock);
     memory_wake();
+    threads_end_here(machine);
+}
+
+bool threads_end_here(Machine *machine) {
+    const bool ends = __atomic_load_n(&is_terminated[machine->place], __ATOMIC_RELAXED) && !machine->is_busy;
+    if (ends) machine->exit_status = THREAD_TERMINATED;
+    return ends;
 }
 
 /* Threads */
@@ -253,15 +265,25 @@ static void abandon_mutexes(int64_t thread) {
     }
 }
 
-/* The thread has left the heap. */
-static void leave_threads(int64_t thread, unsigned place) {
-    pthread_mutex_lock(&lock);
-    states[thread] = STATE_ENDED;
-    places[place] = 0;
-    live--;
-    running--;
+static void end_thread(int64_t thread, State state) {
+    states[thread] = (unsigned char)state;
     abandon_mutexes(thread);
     wake(WAIT_END, thread, true);
+}
+
+static bool has_ended(int64_t thread) { return states[thread] >= STATE_ENDED; }
+
+/* Whether a thread is to end. It is asked for without the lock too. */
+static void set_terminated(unsigned place, bool is_to_end) { __atomic_store_n(&is_terminated[place], is_to_end, __ATOMIC_RELAXED); }
+
+/* The thread has left the heap. */
+static void leave_threads(int64_t thread, unsigned place, State state) {
+    pthread_mutex_lock(&lock);
+    places[place] = 0;
+    set_terminated(place, false);
+    live--;
+    running--;
+    end_thread(thread, state);
     if (!running) tell_all_wait();
     pthread_mutex_unlock(&lock);
 }
@@ -282,11 +304,12 @@ static void *be_thread(void *with) {
     fault_ends_by(end_by_fault);
     memory_enter(machine->registers);
     machine_run_thread(machine);
-    if (machine->exit_status >= 0 && machine->exit_status != THREAD_ENDS) end_program(machine->exit_status);
+    if (machine->exit_status >= 0 && machine->exit_status < THREAD_ENDS) end_program(machine->exit_status);
+    const State state = machine->exit_status == THREAD_TERMINATED ? STATE_TERMINATED : STATE_ENDED;
     machine_set_own(place, REGISTER_NIL);
     memory_leave();
     free_machine(machine);
-    leave_threads(thread, place);
+    leave_threads(thread, place, state);
     return NULL;
 }
 
@@ -320,12 +343,12 @@ static bool start_system_thread(Machine *machine) {
     return is_started;
 }
 
-/* A place for a thread that begins, or 0 where there are as many as may be, or it has begun before. */
-static unsigned take_place(int64_t thread, bool *is_new) {
+/* A place for a thread that begins, or 0 where there are as many as may be, or it isn't new. */
+static unsigned take_place(int64_t thread, State *state) {
     unsigned place = 0;
     pthread_mutex_lock(&lock);
-    *is_new = states[thread] == STATE_NEW;
-    if (*is_new && live < most) {
+    *state = states[thread];
+    if (*state == STATE_NEW && live < most) {
         for (place = 1; places[place]; place++) continue;
         places[place] = thread;
         states[thread] = STATE_LIVE;
@@ -336,11 +359,13 @@ static unsigned take_place(int64_t thread, bool *is_new) {
     return place;
 }
 
-/* The thread didn't begin after all, and may yet. */
+/* The thread didn't begin after all, and may yet, unless it was terminated meanwhile. */
 static void give_back_place(int64_t thread, unsigned place) {
     pthread_mutex_lock(&lock);
     states[thread] = STATE_NEW;
+    if (is_terminated[place]) end_thread(thread, STATE_TERMINATED);
     places[place] = 0;
+    set_terminated(place, false);
     live--;
     running--;
     pthread_mutex_unlock(&lock);
@@ -348,13 +373,15 @@ static void give_back_place(int64_t thread, unsigned place) {
 
 void threads_start(Machine *machine, unsigned dest, unsigned record, unsigned number_operand, unsigned unused) {
     const int64_t thread = number(machine->word[number_operand]);
-    bool is_new;
+    State state;
     UNUSED(dest);
     UNUSED(unused);
     machine_new(machine, REGISTER_SCRATCH, OWN_ENTRIES, 1);
     memory_store(REGISTER_SCRATCH, OWN_THREAD, record);
-    const unsigned place = take_place(thread, &is_new);
-    if (!is_new) machine_fault(machine, "thread-start!: the thread has begun before");
+    const unsigned place = take_place(thread, &state);
+    if (state != STATE_NEW) {
+        machine_fault(machine, "thread-start!: the thread %s before", state == STATE_TERMINATED ? "was terminated" : "has begun");
+    }
     if (!place) machine_fault(machine, "thread-start!: more than %u threads at once beside the first", most);
     if (is_alone()) program.is_shared = true; /* by the first thread, as there is no other */
     machine_set_own(place, REGISTER_SCRATCH);
@@ -384,27 +411,53 @@ void threads_join(Machine *machine, unsigned dest, unsigned number_operand, unsi
     bool came = true;
     UNUSED(unused);
     begin_rest(machine);
-    while (came && states[thread] != STATE_ENDED) came = wait_for(machine, WAIT_END, thread, is_timed ? &moment : NULL);
-    end_rest();
-    machine_set(machine, dest, boolean(came));
+    while (came && !has_ended(thread)) came = wait_for(machine, WAIT_END, thread, is_timed ? &moment : NULL);
+    const bool was_terminated = states[thread] == STATE_TERMINATED;
+    end_rest(machine);
+    machine_set(machine, dest, integer(!came ? 0 : was_terminated ? 2 : 1));
 }
 
+/* Where a thread stands in the directory; the lock is held. */
 static unsigned place_of(int64_t thread) {
-    unsigned found = PLACES_MOST;
-    pthread_mutex_lock(&lock);
-    for (unsigned place = 0; place <= most; place++) {
-        if (places[place] == thread) found = place;
+    unsigned place = 0;
+    while (place <= most && places[place] != thread) place++;
+    return place <= most ? place : PLACES_MOST;
+}
+
+/* If a thread waits, it does no longer. */
+static void wake_thread(int64_t thread) {
+    Waiter *waiter = first_waiter;
+    while (waiter && waiter->thread != thread) waiter = waiter->behind;
+    if (!waiter) return;
+    unlist_waiter(waiter);
+    pthread_cond_signal(&waiter->woken);
+}
+
+/* It ends before this does, but where it is the thread that calls. */
+void threads_terminate(Machine *machine, unsigned dest, unsigned number_operand, unsigned unused, unsigned unused_too) {
+    const int64_t thread = number(machine->word[number_operand]);
+    bool goes_on = true;
+    UNUSED(dest);
+    UNUSED(unused);
+    UNUSED(unused_too);
+    begin_rest(machine);
+    if (states[thread] == STATE_NEW) end_thread(thread, STATE_TERMINATED);
+    if (states[thread] == STATE_LIVE) {
+        set_terminated(place_of(thread), true);
+        wake_thread(thread);
     }
-    pthread_mutex_unlock(&lock);
-    return found;
+    while (goes_on && !has_ended(thread)) goes_on = wait_for(machine, WAIT_END, thread, NULL);
+    end_rest(machine);
 }
 
 /* A thread that ends meanwhile isn't found, or still is. */
 void threads_find(Machine *machine, unsigned dest, unsigned number_operand, unsigned unused, unsigned unused_too) {
-    const unsigned place = place_of(number(machine->word[number_operand]));
     Word word;
     UNUSED(unused);
     UNUSED(unused_too);
+    pthread_mutex_lock(&lock);
+    const unsigned place = place_of(number(machine->word[number_operand]));
+    pthread_mutex_unlock(&lock);
     machine_set(machine, dest, FALSE);
     if (place == PLACES_MOST) return;
     machine_load_own(REGISTER_SCRATCH, place);
@@ -432,7 +485,7 @@ void threads_sleep(Machine *machine, unsigned dest, unsigned moment_operand, uns
     if (!has_moment(machine, moment_operand, &moment)) return;
     begin_rest(machine);
     wait_for(machine, WAIT_MOMENT, 0, &moment);
-    end_rest();
+    end_rest(machine);
 }
 
 void threads_now(Machine *machine, unsigned dest, unsigned unused, unsigned unused_too, unsigned unused_as_well) {
@@ -481,8 +534,26 @@ static unsigned try_lock(int64_t of, int64_t owner) {
     const bool was_abandoned = *at;
     if (!*at) add_mutex(at, of, owner);
     (*at)->owner = owner;
-    (*at)->is_abandoned = owner && states[owner < 0 ? -owner : owner] == STATE_ENDED;
+    (*at)->is_abandoned = owner && has_ended(owner < 0 ? -owner : owner);
     return was_abandoned ? LOCKED_ABANDONED : LOCKED;
+}
+
+/* Where the thread ends it may have been woken all the same, so another one is. */
+static unsigned wait_to_lock(Machine *machine, int64_t of, int64_t owner, const struct timespec *moment) {
+    bool came = true;
+    begin_rest(machine);
+    unsigned locked = try_lock(of, owner);
+    while (!locked && came) {
+        came = wait_for(machine, WAIT_MUTEX, of, moment);
+        if (is_terminated[machine->place]) {
+            wake(WAIT_MUTEX, of, false);
+        } else {
+            locked = try_lock(of, owner);
+        }
+    }
+    machine->is_busy = locked && owner < 0;
+    end_rest(machine);
+    return locked;
 }
 
 void threads_lock(Machine *machine, unsigned dest, unsigned number_operand, unsigned owner_operand, unsigned moment_operand) {
@@ -492,14 +563,8 @@ void threads_lock(Machine *machine, unsigned dest, unsigned number_operand, unsi
     pthread_mutex_lock(&lock);
     unsigned locked = try_lock(of, owner);
     pthread_mutex_unlock(&lock);
-    if (!locked) {
-        bool came = true;
-        begin_rest(machine);
-        for (locked = try_lock(of, owner); !locked && came; locked = try_lock(of, owner)) {
-            came = wait_for(machine, WAIT_MUTEX, of, is_timed ? &moment : NULL);
-        }
-        end_rest();
-    }
+    machine->is_busy = locked && owner < 0;
+    if (!locked) locked = wait_to_lock(machine, of, owner, is_timed ? &moment : NULL);
     machine_set(machine, dest, integer(locked));
 }
 
@@ -508,9 +573,11 @@ static bool is_named_later(int64_t of) {
     return mutex && mutex->owner < 0;
 }
 
-/* The thread rests. */
-static void wait_for_name(Machine *machine, int64_t of) {
-    while (is_named_later(of)) wait_for(machine, WAIT_NAME, of, NULL);
+/* The thread rests. Whether it isn't to end. */
+static bool wait_for_name(Machine *machine, int64_t of) {
+    bool came = true;
+    while (came && is_named_later(of)) came = wait_for(machine, WAIT_NAME, of, NULL);
+    return came;
 }
 
 void threads_name_owner(Machine *machine, unsigned dest, unsigned number_operand, unsigned unused, unsigned unused_too) {
@@ -523,6 +590,7 @@ void threads_name_owner(Machine *machine, unsigned dest, unsigned number_operand
     if (mutex && mutex->owner < 0) mutex->owner = -mutex->owner;
     wake(WAIT_NAME, of, true);
     pthread_mutex_unlock(&lock);
+    machine->is_busy = false;
 }
 
 static void unlock_mutex(int64_t of) {
@@ -543,9 +611,8 @@ void threads_unlock(Machine *machine, unsigned dest, unsigned number_operand, un
     pthread_mutex_unlock(&lock);
     if (!waits) return;
     begin_rest(machine);
-    wait_for_name(machine, of);
-    unlock_mutex(of);
-    end_rest();
+    if (wait_for_name(machine, of)) unlock_mutex(of);
+    end_rest(machine);
 }
 
 void threads_state(Machine *machine, unsigned dest, unsigned number_operand, unsigned unused, unsigned unused_too) {
@@ -556,7 +623,7 @@ void threads_state(Machine *machine, unsigned dest, unsigned number_operand, uns
     wait_for_name(machine, of);
     const Mutex *const mutex = *find_mutex(of);
     const Word word = !mutex ? FALSE : mutex->is_abandoned ? TRUE : integer(mutex->owner);
-    end_rest();
+    end_rest(machine);
     machine_set(machine, dest, word);
 }
 
@@ -565,10 +632,10 @@ void threads_wait(Machine *machine, unsigned dest, unsigned number_operand, unsi
     const int64_t of = number(machine->word[number_operand]), condition = number(machine->word[condition_operand]);
     const bool is_timed = has_moment(machine, moment_operand, &moment);
     begin_rest(machine);
-    wait_for_name(machine, of);
-    unlock_mutex(of);
-    const bool came = wait_for(machine, WAIT_CONDITION, condition, is_timed ? &moment : NULL);
-    end_rest();
+    const bool is_named = wait_for_name(machine, of);
+    if (is_named) unlock_mutex(of);
+    const bool came = is_named && wait_for(machine, WAIT_CONDITION, condition, is_timed ? &moment : NULL);
+    end_rest(machine);
     machine_set(machine, dest, boolean(came));
 }
 

@@ -14,13 +14,17 @@ void threads_open(Machine *machine, unsigned most, void (*ends)(int status));
 bool threads_are_left(void);
 void threads_close(Machine *machine);
 
+/* Whether the thread is to end, as another one has terminated it. A thread that waits for nothing asks this now and then. */
+bool threads_end_here(Machine *machine);
+
 /* What the prelude of threads calls. A thread, a mutex and a condition variable have a number each. A moment is a number of seconds, or #f
  * for never. */
 PrimitiveFunction threads_limit, /* how many threads may be beside the first at once */
     threads_new,                 /* the number of a new thread */
     threads_start,               /* a thread of a number begins */
     threads_end,                 /* the thread that calls ends */
-    threads_join,                /* waits for the end of a thread until a moment; whether it came */
+    threads_join,                /* waits for the end of a thread until a moment: 1, or 2 where it was terminated, or else 0 */
+    threads_terminate,           /* ends a thread */
     threads_find,                /* a thread of a number that has begun and not ended, or #f */
     threads_yield,               /* lets others go on */
     threads_sleep,               /* waits until a moment */
