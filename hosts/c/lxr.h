@@ -123,7 +123,7 @@ uint32_t lxr_version(void);
  * the process then.
  * Codes: LXR_E_IN_USE; LXR_E_SIZE, where a number of blocks or of registers is out of its range, or `size` is none that the archive knows;
  * LXR_E_MEMORY.
- * Cost: grows with both numbers of blocks; a word and a byte are written for each of `blocks`, and a byte for each of `body_blocks`.
+ * Cost: grows with both numbers of blocks; some 27 bytes are written for each of `blocks`, and one for each of `body_blocks`.
  */
 lxr_code lxr_open(lxr_heap *heap, const lxr_settings *settings);
 

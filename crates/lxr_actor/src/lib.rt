@@ -147,10 +147,10 @@ pub struct Core<A> {
 /// Does an actor's next step, on the condition that its word exists. False exactly where there is no next step; then
 /// nothing changes.
 #[inline(always)]
-pub fn step<A: Actor>(words: &mut PlainWords, actor: &mut A) -> bool
-    requires { Fits A.machine words.old actor.old }
+pub fn step<W: Words, A: Actor>(words: &mut W, actor: &mut A) -> bool
+    requires { Fits A.machine (W.words_of words.old) actor.old }
     ensures told { IsTrue result ↔ IsSome (A.machine.action actor.old) }
-    ensures done { (words.new, actor.new) ≡ stepped A.machine words.old actor.old }
+    ensures done { (W.words_of words.new, actor.new) ≡ stepped A.machine (W.words_of words.old) actor.old }
     ensures nearer { IsSome (A.machine.action actor.old) → to_go A.machine actor.new < A.machine.left actor.old }
 {
     let Some(action) = actor.next() else {

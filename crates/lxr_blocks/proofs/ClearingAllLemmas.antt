@@ -4,9 +4,11 @@ use Rattle.std.specs.Prelude.{◌==◌, ◌&&◌, nat_le, nat_lt, slice_index, s
 use Rattle.std.proofs.Math.ListN.{get_or-eq_default}
 use Rattle.std.proofs.lemmas.Bool.Decides.{leb_tells, nat_tests}
 use Rattle.lxr_layout.specs.declared.limits.Limits.{Limits}
+use Rattle.lxr_layout.specs.declared.TheConstants.{LINES_IN_BLOCK}
 use Rattle.lxr_layout.specs.Spaces.{all_regions, grays_region, marks_region, outs_region, region_begin, region_sizes}
 use Rattle.lxr_tables.specs.Entries.{table}
 use Rattle.lxr_image.specs.declared.space.Space.{Space}
+use Rattle.lxr_image.specs.Settled.{NoneIsOut}
 use Rattle.lxr_image.specs.Spaces.{IsSpace, Turns, tables_of}
 use Rattle.lxr_image.specs.Tables.{Tables, bits_in, cut, tables_in}
 use Rattle.lxr_image.proofs.RegionLemmas.{length_region_table}
@@ -146,6 +148,26 @@ clear_passed s b bits from end avoid past free turns = record {
 
     same : (k : ℕ) → IsSet (tables_of s) bits k → in_first bits from k ≡ in_first bits end k
     same k set = elim (first_cases bits from end k past) [ inl e ↦ e | inr h ↦ absurd (avoid k set (block_free (k / bits_in_block bits) h.0 h.1)) ]
+
+-- and so are blocks of which no line is out
+pub outs_passed : (s b : Space) (from end : ℕ) → from ≤ end → ((k : ℕ) → from ≤ k → k < end → NoneIsOut (tables_of b) k)
+    → Turns s b (with_clear (tables_of s) Outs (in_first Outs from)) → Turns s b (with_clear (tables_of s) Outs (in_first Outs end))
+outs_passed s b from end past none turns = record {
+  tables = turns.tables ∙ clear_same (tables_of s) Outs (in_first Outs from) (in_first Outs end) same;
+  rest = turns.rest;
+}
+  where
+    unset : (line : ℕ) → from ≤ line / LINES_IN_BLOCK → line / LINES_IN_BLOCK < end → (tables_of s).outs line ≡ false
+    unset line above below =
+        sym (ap (λ x. cond x false ((tables_of s).outs line)) (first_not Outs from line above)) ∙ sym (ap (λ t. t.outs line) turns.tables) ∙ none (line / LINES_IN_BLOCK) above below line refl
+
+    same : (k : ℕ) → IsSet (tables_of s) Outs k → in_first Outs from k ≡ in_first Outs end k
+    same k set = elim (first_cases Outs from end k past) [ inl e ↦ e | inr h ↦ absurd (true_false (sym set ∙ unset k h.0 h.1)) ]
+
+-- no line of a block that was cleared is out
+pub none_out : (a b : Space) (block : ℕ) → Turns a b (with_clear (tables_of a) Outs (λ k. k / LINES_IN_BLOCK == block)) → NoneIsOut (tables_of b) block
+none_out a b block turns line of_block =
+    ap (λ t. t.outs line) turns.tables ∙ ap (λ x. cond x false ((tables_of a).outs line)) (let e : (line / LINES_IN_BLOCK == block) ≡ true = grind (arith, nat_tests) in e)
 
 -- ---- past the heap
 

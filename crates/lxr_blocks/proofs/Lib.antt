@@ -7,6 +7,7 @@ mod HalvesLemmas
 pub mod HandedLemmas
 pub mod HandingLemmas
 pub mod KeptLemmas
+pub mod KnownLemmas
 pub mod LeftLemmas
 pub mod LineLemmas
 pub mod ListingLemmas

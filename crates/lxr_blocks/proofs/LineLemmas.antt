@@ -1,5 +1,5 @@
 -- Counts that are 0, and free lines in a row.
-use Rattle.std.proofs.Common.{◌≡◌, ◌≢◌, ℕ, zero, suc, ◌+◌, ◌<◌, ◌≤◌, refl, sym, ap, subst, ◌∙◌, inl, inr, arith, Bool, true, false}
+use Rattle.std.proofs.Common.{◌≡◌, ◌≢◌, ℕ, zero, suc, ◌+◌, ◌<◌, ◌≤◌, refl, sym, ap, subst, ◌∙◌, inl, inr, ◌⊎◌, arith, Bool, true, false}
 use Rattle.std.specs.Prelude.{◌==◌, ◌&&◌, IfNone, IsTrue, None, Option, Some, max, if◌then◌else◌}
 use Rattle.std.proofs.Common.{nat_cmp}
 use Rattle.std.specs.Ordering.{ord_max}
@@ -89,36 +89,36 @@ next_is_run t blocks b from r within is = record {
 
 -- ---- the longest run of a block
 
--- no run that begins below a line is longer
-abbrev pub NoneLonger : Tables → ℕ → ℕ → ℕ → ℕ → Type 0
-NoneLonger t blocks b line best = (q : Run) → IsFreeRun t blocks q → q.block ≡ b → q.line < line → q.lines ≤ best
+-- no free lines that begin before a line are more
+abbrev pub NoneLonger : (ℕ → Bool) → ℕ → ℕ → Type 0
+NoneLonger free line best = (a n : ℕ) → a + n ≤ LINES_IN_BLOCK → AreFree free a n → a < line → n ≤ best
 
-pub longer_none : (t : Tables) (blocks b best : ℕ) → NoneLonger t blocks b 0 best
-longer_none t blocks b best q is same before = absurd (omega arith)
+pub longer_none : (free : ℕ → Bool) (best : ℕ) → NoneLonger free 0 best
+longer_none free best a n within all before = absurd (omega arith)
 
-pub longer_more : (t : Tables) (blocks b from best : ℕ) (r : Run) → IsNextRun (free_in t b) b from r → NoneLonger t blocks b from best → NoneLonger t blocks b (r.line + r.lines) (max best r.lines)
-longer_more t blocks b from best r next before q is same here = elim (leb_tells from q.line) [
-  | inl k ↦ let within = is.within in let short = not_longer (free_in t b) b from r q.line q.lines next k.1 here within (free_lines t blocks b q is same) in omega arith
-  | inr k ↦ let short = before q is same k.1 in omega arith
+pub longer_more : (free : ℕ → Bool) (b from best : ℕ) (r : Run) → IsNextRun free b from r → NoneLonger free from best → NoneLonger free (r.line + r.lines) (max best r.lines)
+longer_more free b from best r next before a n within all here = elim (leb_tells from a) [
+  | inl k ↦ let short = not_longer free b from r a n next k.1 here within all in omega arith
+  | inr k ↦ let short = before a n within all k.1 in omega arith
 ]
 
-pub longer_end : (t : Tables) (blocks b from best : ℕ) → IsFirstLine (free_in t b) true from LINES_IN_BLOCK → NoneLonger t blocks b from best → (q : Run) → IsFreeRun t blocks q → q.block ≡ b → q.lines ≤ best
-longer_end t blocks b from best none before q is same = elim (leb_tells from q.line) [
-  | inl k ↦ let no_lines = none_behind (free_in t b) from q.line q.lines none k.1 is.within (free_lines t blocks b q is same) in omega arith
-  | inr k ↦ before q is same k.1
+pub longer_end : (free : ℕ → Bool) (from best : ℕ) → IsFirstLine free true from LINES_IN_BLOCK → NoneLonger free from best → (a n : ℕ) → a + n ≤ LINES_IN_BLOCK → AreFree free a n → n ≤ best
+longer_end free from best none before a n within all = elim (leb_tells from a) [
+  | inl k ↦ let no_lines = none_behind free from a n none k.1 within all in omega arith
+  | inr k ↦ before a n within all k.1
 ]
 
--- a run of so many lines in a block
-abbrev pub HasRunOf : Tables → ℕ → ℕ → ℕ → Type 0
-HasRunOf t blocks b n = (q : Run) × IsFreeRun t blocks q × (q.block ≡ b) × (q.lines ≡ n)
+-- so many free lines stand in a row
+abbrev pub HasFree : (ℕ → Bool) → ℕ → Type 0
+HasFree free n = (a : ℕ) × (a + n ≤ LINES_IN_BLOCK) × AreFree free a n
 
-pub has_none : (t : Tables) (blocks b : ℕ) → b < blocks → HasRunOf t blocks b 0
-has_none t blocks b within = (record { block = b; line = 0; lines = 0 }, record { block = within; within = omega arith; free = λ i _ no. absurd (omega (arith, no)) }, refl, refl)
+pub has_none : (free : ℕ → Bool) → HasFree free 0
+has_none free = (0, omega arith, λ i _ no. absurd (omega (arith, no)))
 
-pub has_longer : (t : Tables) (blocks b from best : ℕ) (r : Run) → b < blocks → IsNextRun (free_in t b) b from r → HasRunOf t blocks b best → HasRunOf t blocks b (max best r.lines)
-has_longer t blocks b from best r within next has = elim (leb_tells best r.lines) [
-  | inl k ↦ let above = k.1 in (r, next_is_run t blocks b from r within next, next.block, omega arith)
-  | inr k ↦ let below = k.1 in let is = has.3 in (has.0, has.1, has.2, omega arith)
+pub has_longer : (free : ℕ → Bool) (b from best : ℕ) (r : Run) → IsNextRun free b from r → HasFree free best → HasFree free (max best r.lines)
+has_longer free b from best r next has = elim (leb_tells best r.lines) [
+  | inl k ↦ let above = k.1 in let within = next.ends.within in let most : max best r.lines ≡ r.lines = omega arith in subst (HasFree free) (sym most) (r.line, within, next.ends.passed)
+  | inr k ↦ let below = k.1 in let most : max best r.lines ≡ best = omega arith in subst (HasFree free) (sym most) has
 ]
 
 pub greater_is : (a b : ℕ) → ord_max nat_cmp a b ≡ max a b
@@ -175,6 +175,27 @@ count_less free i (suc n) within is = elim (eqb_tells i n) [
   | inr k ↦ let ne = k.1 in let before = count_less free i n (omega arith) is in let here = one_at_most (free n) in omega arith
 ]
 
+-- where some are free there is one, and where not all are there is another
+pub count_has : (free : ℕ → Bool) (n : ℕ) → 1 ≤ free_count free n → (i : ℕ) × (i < n) × (free i ≡ true)
+unfolding free_count
+count_has free zero some = absurd (omega arith)
+count_has free (suc n) some = elim (free n) as (λ b. free n ≡ b → (i : ℕ) × (i < suc n) × (free i ≡ true)) [
+  | true ↦ λ e. (n, omega arith, e)
+  | false ↦ λ e.
+      let here = ap (λ b. free_count free n + (if b then 1 else 0)) e in
+      let before = count_has free n (omega arith) in (before.0, (let h = before.1 in omega arith), before.2)
+] refl
+
+pub count_lacks : (free : ℕ → Bool) (n : ℕ) → free_count free n < n → (i : ℕ) × (i < n) × (free i ≡ false)
+unfolding free_count
+count_lacks free zero less = absurd (omega arith)
+count_lacks free (suc n) less = elim (free n) as (λ b. free n ≡ b → (i : ℕ) × (i < suc n) × (free i ≡ false)) [
+  | false ↦ λ e. (n, omega arith, e)
+  | true ↦ λ e.
+      let here = ap (λ b. free_count free n + (if b then 1 else 0)) e in
+      let before = count_lacks free n (omega arith) in (before.0, (let h = before.1 in omega arith), before.2)
+] refl
+
 abbrev by_count : ℕ → BlockState
 by_count n = if n == LINES_IN_BLOCK then Free else (if n == 0 then Whole else Partly)
 
@@ -196,6 +217,36 @@ none_free_state t b none = sym (ap by_count (count_none (free_in t b) LINES_IN_B
 pub some_free_state : (t : Tables) (b free taken : ℕ) → free < LINES_IN_BLOCK → free_in t b free ≡ true → taken < LINES_IN_BLOCK → free_in t b taken ≡ false → Partly ≡ state_by_lines t b
 some_free_state t b free taken free_within is taken_within is_not =
     partly_by_count (free_count (free_in t b) LINES_IN_BLOCK) (count_some (free_in t b) free LINES_IN_BLOCK free_within is) (count_less (free_in t b) taken LINES_IN_BLOCK taken_within is_not)
+
+-- what each state says of the lines
+pub free_or_not : (t : Tables) (b : ℕ) →
+    ((state_by_lines t b ≡ Free) × ((i : ℕ) → i < LINES_IN_BLOCK → free_in t b i ≡ true))
+    ⊎ ((state_by_lines t b ≡ Partly) × ((i : ℕ) × (i < LINES_IN_BLOCK) × (free_in t b i ≡ true)) × ((i : ℕ) × (i < LINES_IN_BLOCK) × (free_in t b i ≡ false)))
+    ⊎ ((state_by_lines t b ≡ Whole) × ((i : ℕ) → i < LINES_IN_BLOCK → free_in t b i ≡ false))
+free_or_not t b =
+    let free = free_in t b in
+    let many : ℕ = free_count free LINES_IN_BLOCK in
+    elim (eqb_tells many LINES_IN_BLOCK) [
+      | inl all ↦ let is = all.1 in
+          let each : (i : ℕ) → i < LINES_IN_BLOCK → free i ≡ true = λ i within. elim (free i) as (λ x. free i ≡ x → x ≡ true) [
+            | true ↦ λ e. refl
+            | false ↦ λ e. let less = count_less free i LINES_IN_BLOCK within e in absurd (omega arith)
+          ] refl in
+          inl (sym (all_free_state t b each), each)
+      | inr other ↦ let ne = other.1 in elim (eqb_tells many 0) [
+        | inl none ↦ let is = none.1 in
+            let each : (i : ℕ) → i < LINES_IN_BLOCK → free i ≡ false = λ i within. elim (free i) as (λ x. free i ≡ x → x ≡ false) [
+              | false ↦ λ e. refl
+              | true ↦ λ e. let some = count_some free i LINES_IN_BLOCK within e in absurd (omega arith)
+            ] refl in
+            inr (inr (sym (none_free_state t b each), each))
+        | inr some ↦ let more = some.1 in
+            let within = count_within free LINES_IN_BLOCK in
+            let one = count_has free LINES_IN_BLOCK (omega arith) in
+            let other = count_lacks free LINES_IN_BLOCK (omega arith) in
+            inr (inl (sym (some_free_state t b one.0 other.0 one.1 one.2 other.1 other.2), one, other))
+      ]
+    ]
 
 -- a block with a line that isn't free isn't Free by its lines
 free_by_count : (n : ℕ) → by_count n ≡ Free → n ≡ LINES_IN_BLOCK

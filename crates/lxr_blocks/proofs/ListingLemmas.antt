@@ -11,12 +11,12 @@ use Rattle.lxr_layout.specs.Runs.{word_of_run}
 use Rattle.lxr_image.specs.declared.space.Space.{Space}
 use Rattle.lxr_image.specs.Tables.{Tables, changed}
 use Rattle.lxr_image.specs.Spaces.{Turns, tables_of}
-use Rattle.lxr_image.proofs.SpaceLemmas.{same_limits, turns_then}
+use Rattle.lxr_image.proofs.SpaceLemmas.{turns_then}
 use Rattle.lxr_blocks.specs.declared.states.BlockState.{BlockState}
 use Rattle.lxr_blocks.specs.declared.states.BlockState.TheVariants.{Free, Partly, Whole, Chosen, World}
 use Rattle.lxr_blocks.specs.States.{AreFreeBlocks, state_in}
 use Rattle.lxr_blocks.specs.Lines.{IsFirstLine, IsNextRun, begins_run, free_from, runs_below}
-use Rattle.lxr_blocks.specs.Listing.{block_frees, block_runs, joined, listed_frees, listed_runs, lists_block, lists_runs, numbers_from, run_words, with_frees, with_lists, with_runs, written}
+use Rattle.lxr_blocks.specs.Listing.{block_frees, block_runs, joined, lists_block, lists_runs, numbers_from, run_words, with_frees, with_listed, with_lists, with_runs, written}
 
 -- ---- runs of a block
 
@@ -310,28 +310,30 @@ count_more f b n m is more = more ∙ ap (λ x. x + length (f b)) is ∙ sym (le
 behind : (f : ℕ → ℕ) (at n : ℕ) (xs ys zs : List ℕ) → n ≡ at + length xs → xs ++ ys ≡ zs → written (written f at xs) n ys ≡ written f at zs
 behind f at n xs ys zs is both = ap (λ k. written (written f at xs) k ys) is ∙ written_more f at xs ys ∙ ap (written f at) both
 
--- numbers that are written behind a list of them
-pub frees_more : (a b c : Space) (n : ℕ) (xs ys zs : List ℕ) → Turns a b (with_frees (tables_of a) 0 xs) → n ≡ length xs → xs ++ ys ≡ zs → Turns b c (with_frees (tables_of b) n ys) → Turns a c (with_frees (tables_of a) 0 zs)
-frees_more a b c n xs ys zs first is both second =
+-- what is written behind a list of runs, and behind one of numbers
+pub listed_runs_more : (a b c : Space) (n : ℕ) (xs ys more all : List ℕ) → Turns a b (with_listed (tables_of a) xs ys) → n ≡ length xs → xs ++ more ≡ all → Turns b c (with_runs (tables_of b) n more) → Turns a c (with_listed (tables_of a) all ys)
+listed_runs_more a b c n xs ys more all first is both second =
     let t : Tables = tables_of a in
     subst (Turns a c)
-    (ap (λ u. with_frees u n ys) first.tables
-    ∙ ap (λ x. record t { frees = x }) (behind t.frees 0 n xs ys zs (is ∙ sym (zero-add (length xs))) both))
-    (turns_then a b c (with_frees t 0 xs) (with_frees (tables_of b) n ys) first second)
+    (ap (λ u. with_runs u n more) first.tables
+    ∙ ap (λ x. record t { runs = x; frees = written t.frees 0 ys }) (behind t.runs 0 n xs more all (is ∙ sym (zero-add (length xs))) both))
+    (turns_then a b c (with_listed t xs ys) (with_runs (tables_of b) n more) first second)
 
-pub runs_more : (a b c : Space) (block n : ℕ) → Turns a b (with_runs (tables_of a) 0 (joined (block_runs (tables_of a)) block)) → n ≡ length (joined (block_runs (tables_of a)) block)
-    → Turns b c (with_runs (tables_of b) n (block_runs (tables_of b) block)) → Turns a c (with_runs (tables_of a) 0 (joined (block_runs (tables_of a)) (block + 1)))
-runs_more a b c block n first is second =
-    let t : Tables = tables_of a in let f : ℕ → List ℕ = block_runs t in
+pub listed_frees_more : (a b c : Space) (n : ℕ) (xs ys more all : List ℕ) → Turns a b (with_listed (tables_of a) xs ys) → n ≡ length ys → ys ++ more ≡ all → Turns b c (with_frees (tables_of b) n more) → Turns a c (with_listed (tables_of a) xs all)
+listed_frees_more a b c n xs ys more all first is both second =
+    let t : Tables = tables_of a in
     subst (Turns a c)
-    (ap (λ u. with_runs u n (block_runs u block)) first.tables
-    ∙ ap (λ x. record t { runs = x }) (behind t.runs 0 n (joined f block) (f block) (joined f (block + 1)) (is ∙ sym (zero-add (length (joined f block)))) (joined_more f block)))
-    (turns_then a b c (with_runs t 0 (joined f block)) (with_runs (tables_of b) n (block_runs (tables_of b) block)) first second)
+    (ap (λ u. with_frees u n more) first.tables
+    ∙ ap (λ x. record t { runs = written t.runs 0 xs; frees = x }) (behind t.frees 0 n ys more all (is ∙ sym (zero-add (length ys))) both))
+    (turns_then a b c (with_listed t xs ys) (with_frees (tables_of b) n more) first second)
 
 -- nothing is listed yet
-pub frees_none : (a : Space) → Turns a a (with_frees (tables_of a) 0 (joined (block_frees (tables_of a)) 0))
-frees_none a = record {
-  tables = ap (λ x. record (tables_of a) { frees = x }) (written_none (tables_of a).frees 0 ∙ ap (written (tables_of a).frees 0) (sym (joined_none (block_frees (tables_of a)))));
+pub none_listed : (a : Space) (xs ys : List ℕ) → xs ≡ [] → ys ≡ [] → Turns a a (with_listed (tables_of a) xs ys)
+none_listed a xs ys no_runs no_frees = record {
+  tables = λ j. record (tables_of a) {
+    runs = (written_none (tables_of a).runs 0 ∙ ap (written (tables_of a).runs 0) (sym no_runs)) j;
+    frees = (written_none (tables_of a).frees 0 ∙ ap (written (tables_of a).frees 0) (sym no_frees)) j;
+  };
   rest = refl;
 }
 
@@ -371,24 +373,19 @@ run_more a b c at n x xs zs first is both second =
 abbrev pub with_cursor : Tables → ℕ → ℕ → Tables
 with_cursor t k v = record t { cursors = changed t.cursors k v }
 
-pub all_listed : (a b c d e f g : Space) (runs frees : ℕ) → Turns a b (with_runs (tables_of a) 0 (listed_runs (tables_of a) a.limits.blocks)) → runs ≡ length (listed_runs (tables_of a) a.limits.blocks)
-    → Turns b c (with_frees (tables_of b) 0 (listed_frees (tables_of b) b.limits.blocks)) → frees ≡ length (listed_frees (tables_of b) b.limits.blocks)
-    → Turns c d (with_cursor (tables_of c) 1 0) → Turns d e (with_cursor (tables_of d) 2 runs) → Turns e f (with_cursor (tables_of e) 3 0) → Turns f g (with_cursor (tables_of f) 4 frees)
-    → Turns a g (with_lists (tables_of a) (listed_runs (tables_of a) a.limits.blocks) (listed_frees (tables_of a) a.limits.blocks))
-all_listed a b c d e f g runs frees first runs_is second frees_is one two three four =
+pub all_listed : (a b c d e f : Space) (xs ys : List ℕ) (runs frees : ℕ) → Turns a b (with_listed (tables_of a) xs ys) → runs ≡ length xs → frees ≡ length ys
+    → Turns b c (with_cursor (tables_of b) 1 0) → Turns c d (with_cursor (tables_of c) 2 runs) → Turns d e (with_cursor (tables_of d) 3 0) → Turns e f (with_cursor (tables_of e) 4 frees)
+    → Turns a f (with_lists (tables_of a) xs ys)
+all_listed a b c d e f xs ys runs frees first runs_is frees_is one two three four =
     let t : Tables = tables_of a in
-    let listed : List ℕ = listed_frees (tables_of b) b.limits.blocks in
-    let same : listed ≡ listed_frees t a.limits.blocks =
-    ap (λ u. listed_frees u b.limits.blocks) first.tables ∙ ap (λ n. listed_frees t n.blocks) (same_limits a b (with_runs (tables_of a) 0 (listed_runs (tables_of a) a.limits.blocks)) first) in
-    let count : frees ≡ length (listed_frees t a.limits.blocks) = frees_is ∙ ap length same in
-    let all = turns_then a f g _ _ (turns_then a e f _ _ (turns_then a d e _ _ (turns_then a c d _ _ (turns_then a b c _ _ first second) one) two) three) four in
+    let all = turns_then a e f _ _ (turns_then a d e _ _ (turns_then a c d _ _ (turns_then a b c _ _ first one) two) three) four in
     record {
       tables = four.tables
-          ∙ ap (λ u. with_cursor u FREE_BLOCK_COUNT frees) (three.tables ∙ ap (λ u. with_cursor u FREE_BLOCK_CURSOR 0) (two.tables ∙ ap (λ u. with_cursor u RUN_COUNT runs) (one.tables ∙ ap (λ u. with_cursor u RUN_CURSOR 0) (second.tables ∙ ap (λ u. with_frees u 0 listed) first.tables))))
+          ∙ ap (λ u. with_cursor u FREE_BLOCK_COUNT frees) (three.tables ∙ ap (λ u. with_cursor u FREE_BLOCK_CURSOR 0) (two.tables ∙ ap (λ u. with_cursor u RUN_COUNT runs) (one.tables ∙ ap (λ u. with_cursor u RUN_CURSOR 0) first.tables)))
           ∙ (λ j. record t {
-            runs = written t.runs 0 (listed_runs t a.limits.blocks);
-            frees = written t.frees 0 (same j);
-            cursors = changed (changed (changed (changed t.cursors RUN_CURSOR 0) 2 (runs_is j)) 3 0) 4 (count j);
+            runs = written t.runs 0 xs;
+            frees = written t.frees 0 ys;
+            cursors = changed (changed (changed (changed t.cursors RUN_CURSOR 0) 2 (runs_is j)) 3 0) 4 (frees_is j);
           });
       rest = all.rest;
     }

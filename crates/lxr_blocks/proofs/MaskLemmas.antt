@@ -9,13 +9,14 @@ use Rattle.std.proofs.lemmas.Nat.Bits.{bit_at-lt, bit_at-trailing_ones, bit_at-t
 use Rattle.lxr_layout.specs.declared.TheConstants.{GRANULES_IN_BLOCK, GRANULES_IN_LINE, LINES_IN_BLOCK}
 use Rattle.lxr_layout.specs.declared.runs.Run.{Run}
 use Rattle.lxr_tables.proofs.BitLemmas.{one_is_set, set_is_one, unset_is_zero}
+use Rattle.lxr_image.specs.Settled.{IsLongest}
 use Rattle.lxr_image.specs.Tables.{Tables}
 use Rattle.lxr_blocks.specs.declared.states.BlockState.TheVariants.{Free, Partly, Whole}
 use Rattle.lxr_blocks.specs.Lines.{IsFirstLine, IsFreeRun, IsNextRun, free_in}
 use Rattle.lxr_blocks.specs.Masks.{IsMask}
 use Rattle.lxr_blocks.specs.States.{state_by_lines}
 use Rattle.lxr_blocks.proofs.KeptLemmas.{free_line_is_told}
-use Rattle.lxr_blocks.proofs.LineLemmas.{all_free_state, none_free_state, some_free_state}
+use Rattle.lxr_blocks.proofs.LineLemmas.{AreFree, HasFree, all_free_state, none_free_state, some_free_state}
 
 -- ---- bits
 
@@ -47,6 +48,13 @@ not_true false never = refl
 
 pub untold_line : (mask : ℕ) (lines : ℕ → Bool) (i : ℕ) → IsMask mask lines → i < LINES_IN_BLOCK → bit_at mask i ≡ 0 → lines i ≡ false
 untold_line mask lines i is within none = not_true (lines i) (λ yes. let one = set_is_one mask i ((is i within).1 yes) in absurd (omega arith))
+
+-- the bits of a mask as lines
+abbrev pub bits_of : ℕ → ℕ → Bool
+bits_of mask i = nat_eq (bit_at mask i) 1
+
+pub mask_of_bits : (mask : ℕ) → IsMask mask (bits_of mask)
+mask_of_bits mask i within = ((λ set. eq-eqb (bit_at mask i) 1 (set_is_one mask i set)), (λ yes. one_is_set mask i (eqb-true (bit_at mask i) 1 yes)))
 
 -- the lines that are no others
 pub other_lines : (mask : ℕ) (lines : ℕ → Bool) → mask < 2 ^ 128 → IsMask mask lines → IsMask (bit_not w128 mask) (λ i. not (lines i))
@@ -141,11 +149,7 @@ lowest_set mask from lines fits in_block some is =
 pub lowest_place : (mask from : ℕ) → mask < 2 ^ 128 → from ≤ LINES_IN_BLOCK → bit_and mask ((2 ^ 128 - 1) * 2 ^ from % 2 ^ 128) ≢ 0
     → (from ≤ trailing_zeros w128 (bit_and mask ((2 ^ 128 - 1) * 2 ^ from % 2 ^ 128))) × (trailing_zeros w128 (bit_and mask ((2 ^ 128 - 1) * 2 ^ from % 2 ^ 128)) ≤ LINES_IN_BLOCK)
 lowest_place mask from fits in_block some =
-    let first = lowest_set mask from (λ i. nat_eq (bit_at mask i) 1) fits in_block some (λ i within. (
-      (λ set. eq-eqb (bit_at mask i) 1 (set_is_one mask i set)),
-      (λ yes. one_is_set mask i (eqb-true (bit_at mask i) 1 yes)),
-    )) in
-    (first.reached, first.within)
+    let first = lowest_set mask from (bits_of mask) fits in_block some (mask_of_bits mask) in (first.reached, first.within)
 
 -- the first of the other lines is the end of these
 pub turned_first : (free : ℕ → Bool) (from at : ℕ) → IsFirstLine (λ i. not (free i)) true from at → IsFirstLine free false from at
@@ -248,6 +252,35 @@ lowest_first t blocks b mask starts n fits is starts_is there q run same long =
       | inl c ↦ c.1
       | inr c ↦ let none = lowest.2 q.line c.1 in absurd (omega arith)
     ]
+
+-- ---- the longest run
+
+pub longest_bits : (mask best : ℕ) → ((a n : ℕ) → a + n ≤ LINES_IN_BLOCK → AreFree (bits_of mask) a n → n ≤ best) → HasFree (bits_of mask) best → IsLongest (λ i. IsBitSet mask i) best
+longest_bits mask best bound has = (
+  (λ first many within each. bound first many within (λ i low high.
+      let same : first + (i - first) ≡ i = omega (arith, low) in
+      eq-eqb (bit_at mask i) 1 (set_is_one mask i (subst (IsBitSet mask) same (each (i - first) (omega (arith, low, high))))))),
+  inr (has.0, has.1, λ i h. one_is_set mask (has.0 + i) (eqb-true (bit_at mask (has.0 + i)) 1 (has.2 (has.0 + i) (omega arith) (omega (arith, h))))),
+)
+
+pub longest_bound : (t : Tables) (blocks b mask best : ℕ) → IsMask mask (free_in t b) → IsLongest (λ i. IsBitSet mask i) best → (q : Run) → IsFreeRun t blocks q → q.block ≡ b → q.lines ≤ best
+longest_bound t blocks b mask best is longest q run same = longest.0 q.line q.lines run.within (run_bits t blocks b mask q.lines q is run same (omega arith))
+
+pub longest_reached : (t : Tables) (blocks b mask best : ℕ) → b < blocks → IsMask mask (free_in t b) → IsLongest (λ i. IsBitSet mask i) best → (q : Run) × IsFreeRun t blocks q × (q.block ≡ b) × (q.lines ≡ best)
+longest_reached t blocks b mask best in_heap is (bound, inl none) =
+    (record { block = b; line = 0; lines = 0 }, record { block = in_heap; within = omega arith; free = λ i _ no. absurd (omega (arith, no)) }, refl, sym none)
+longest_reached t blocks b mask best in_heap is (bound, inr (first, within, each)) = (
+  record { block = b; line = first; lines = best },
+  record {
+    block = in_heap;
+    within = within;
+    free = λ i low high.
+        let same : first + (i - first) ≡ i = omega (arith, low) in
+        (is i (omega (arith, high, within))).0 (subst (IsBitSet mask) same (each (i - first) (omega (arith, low, high))));
+  },
+  refl,
+  refl,
+)
 
 -- ---- the state by lines
 

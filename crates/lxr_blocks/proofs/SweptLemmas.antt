@@ -1,15 +1,20 @@
 -- Blocks swept one after another are swept all.
-use Rattle.std.proofs.Common.{◌≡◌, ◌≢◌, ℕ, ◌+◌, ◌<◌, ◌≤◌, refl, sym, ap, subst, ◌∙◌, inl, inr, arith, Bool, true, false}
+use Rattle.std.proofs.Common.{◌≡◌, ◌≢◌, ℕ, zero, suc, ◌+◌, ◌<◌, ◌≤◌, refl, sym, ap, subst, ◌∙◌, inl, inr, arith, Bool, true, false}
 use Rattle.std.specs.Prelude.{◌==◌, nat_eq, nat_lt, not, ◌&&◌, if◌then◌else◌}
 use Rattle.std.proofs.lemmas.Bool.Decides.{eqb_tells, leb_tells, nat_tests}
 use Rattle.lxr_image.specs.declared.space.Space.{Space}
+use Rattle.lxr_image.specs.Settled.{StandsByLines}
 use Rattle.lxr_image.specs.Tables.{Tables, changed}
 use Rattle.lxr_image.specs.Spaces.{Turns, tables_of}
 use Rattle.lxr_image.proofs.SpaceLemmas.{turns_then}
 use Rattle.lxr_blocks.specs.declared.states.BlockState.{BlockState}
 use Rattle.lxr_blocks.specs.declared.states.BlockState.TheVariants.{Free, Partly, Whole, Chosen, World}
-use Rattle.lxr_blocks.specs.States.{AreFreeBlocks, FreeIsFree, is_fixed, state_by_lines, state_in, state_number, state_of, with_state_by_lines}
-use Rattle.lxr_blocks.specs.Swept.{SweptIsByLines, with_states_by_lines}
+use Rattle.lxr_blocks.specs.Lines.{free_in}
+use Rattle.lxr_blocks.specs.States.{FreeIsFree, is_fixed, state_by_lines, state_in, state_number, state_of, with_state_by_lines}
+use Rattle.lxr_blocks.specs.Swept.{NeedsNoSweep, SweptIsByLines, with_states_by_lines}
+use Rattle.lxr_blocks.proofs.KnownLemmas.{free_told}
+use Rattle.lxr_blocks.proofs.LineLemmas.{all_free_state, free_or_not, none_free_state, some_free_state}
+use Rattle.lxr_blocks.proofs.MaskLemmas.{not_true}
 
 -- the state of a block, where a test says whether it is renewed
 abbrev chosen_state : Tables → ℕ → Bool → ℕ
@@ -79,28 +84,95 @@ zero_of_free n is = elim (eqb_tells n 0) [
     other false false true is = cc
     other false false false is = cc
 
--- ---- blocks that are Free
+-- ---- blocks that are passed
 
-free_at : (t : Tables) (b c i : ℕ) → b ≤ c → ((k : ℕ) → b ≤ k → k < c → (state_in t k ≡ Free) × (state_by_lines t k ≡ Free)) → (with_states_by_lines t b).states i ≡ (with_states_by_lines t c).states i
-free_at t b c i order free = elim (leb_tells b i) [
+-- a block has the state of its lines, unless it is Chosen or World
+abbrev HasStateByLines : Tables → ℕ → Type 0
+HasStateByLines t b = is_fixed (state_in t b) ≡ false → t.states b ≡ state_number (state_by_lines t b)
+
+-- a state beyond 2 is fixed
+fixed_beyond : (n : ℕ) → 3 ≤ n → is_fixed (state_of n) ≡ true
+fixed_beyond n beyond =
+    let zero : (n == 0) ≡ false = grind (arith, nat_tests) in let one : (n == 1) ≡ false = grind (arith, nat_tests) in let two : (n == 2) ≡ false = grind (arith, nat_tests) in
+    (λ i. is_fixed (if zero i then Free else (if one i then Partly else (if two i then Whole else (if n == 3 then Chosen else World))))) ∙ fixed (n == 3)
+  where
+    fixed : (b : Bool) → is_fixed (if b then Chosen else World) ≡ true
+    fixed true = refl
+    fixed false = refl
+
+-- and no other
+beyond_fixed : (n : ℕ) → is_fixed (state_of n) ≡ true → 3 ≤ n
+beyond_fixed zero is = absurd (let no : false ≡ true = is in cc)
+beyond_fixed (suc zero) is = absurd (let no : false ≡ true = is in cc)
+beyond_fixed (suc (suc zero)) is = absurd (let no : false ≡ true = is in cc)
+beyond_fixed (suc (suc (suc n))) is = omega arith
+
+has_state : (t : Tables) (b : ℕ) → StandsByLines t b → HasStateByLines t b
+has_state t b (inl fixed) free = absurd (let yes = fixed_beyond (t.states b) fixed in let no : true ≡ false = sym yes ∙ free in cc)
+has_state t b (inr (inl (is, all))) free = is ∙ ap state_number (all_free_state t b (λ i within. (free_told t b i).0 (all i within)))
+has_state t b (inr (inr (inl (is, some, taken)))) free =
+    is ∙ ap state_number (some_free_state t b some.0 taken.0 some.1 ((free_told t b some.0).0 some.2) taken.1 (not_true (free_in t b taken.0) (λ yes. taken.2 ((free_told t b taken.0).1 yes))))
+has_state t b (inr (inr (inr (is, none)))) free =
+    is ∙ ap state_number (none_free_state t b (λ i within. not_true (free_in t b i) (λ yes. none i within ((free_told t b i).1 yes))))
+
+stands : (t : Tables) (b : ℕ) → HasStateByLines t b → StandsByLines t b
+stands t b has = elim (is_fixed (state_in t b)) as (λ x. is_fixed (state_in t b) ≡ x → StandsByLines t b) [
+  | true ↦ λ e. inl (beyond_fixed (t.states b) e)
+  | false ↦ λ e. elim (free_or_not t b) [
+    | inl all ↦ inr (inl (has e ∙ ap state_number all.0, λ i within. (free_told t b i).1 (all.1 i within)))
+    | inr (inl part) ↦ inr (inr (inl (
+      has e ∙ ap state_number part.0,
+      (part.1.0, part.1.1, (free_told t b part.1.0).1 part.1.2),
+      (part.2.0, part.2.1, λ is. let no : true ≡ false = sym ((free_told t b part.2.0).0 is) ∙ part.2.2 in cc),
+    )))
+    | inr (inr none) ↦ inr (inr (inr (has e ∙ ap state_number none.0, λ i within is. let no : true ≡ false = sym ((free_told t b i).0 is) ∙ none.1 i within in cc)))
+  ]
+] refl
+
+-- a block that was swept has the state of its lines
+renewed_has : (t : Tables) (b : ℕ) (fixed : Bool) → is_fixed (state_in t b) ≡ fixed → HasStateByLines (record t { states = if fixed then t.states else (changed t.states b (state_number (state_by_lines t b))) }) b
+renewed_has t b true is free = absurd (let no : true ≡ false = sym is ∙ free in cc)
+renewed_has t b false is free = ap (λ x. if x then state_number (state_by_lines t b) else t.states b) (let e : nat_eq b b ≡ true = grind (arith, nat_tests) in e)
+
+pub renewed_stands : (t : Tables) (b : ℕ) → StandsByLines (with_state_by_lines t b) b
+renewed_stands t b = stands (with_state_by_lines t b) b (renewed_has t b (is_fixed (state_in t b)) refl)
+
+-- a block that has its state already is as if it were swept
+state_kept : (t : Tables) (b : ℕ) → HasStateByLines t b → (fixed : Bool) → is_fixed (state_in t b) ≡ fixed → t.states b ≡ chosen_state t b (not fixed)
+state_kept t b has true is = refl
+state_kept t b has false is = has is
+
+kept_at : (t : Tables) (b c i : ℕ) → b ≤ c → ((k : ℕ) → b ≤ k → k < c → HasStateByLines t k) → (with_states_by_lines t b).states i ≡ (with_states_by_lines t c).states i
+kept_at t b c i order has = elim (leb_tells b i) [
   | inl k ↦ elim (leb_tells c i) [
     | inl m ↦ ap (λ x. chosen_state t i (x && not (is_fixed (state_in t i)))) (not_below i b k.1 ∙ sym (not_below i c m.1))
     | inr m ↦
-        let is = free i k.1 m.1 in
         ap (λ x. chosen_state t i (x && not (is_fixed (state_in t i)))) (not_below i b k.1)
-        ∙ zero_of_free (t.states i) is.0 ∙ sym (ap state_number is.1)
-        ∙ sym (ap (λ x. chosen_state t i (x && not (is_fixed (state_in t i)))) (below i c m.1) ∙ ap (λ s. chosen_state t i (not (is_fixed s))) is.0)
+        ∙ state_kept t i (has i k.1 m.1) (is_fixed (state_in t i)) refl
+        ∙ sym (ap (λ x. chosen_state t i (x && not (is_fixed (state_in t i)))) (below i c m.1))
   ]
   | inr k ↦ let less = k.1 in
       ap (λ x. chosen_state t i (x && not (is_fixed (state_in t i)))) (below i b k.1 ∙ sym (below i c (omega arith)))
 ]
 
--- blocks that are Free and have only free lines needn't be swept
-pub free_passed : (t u : Tables) (b c : ℕ) → u ≡ with_states_by_lines t b → b ≤ c → AreFreeBlocks u b c → ((k : ℕ) → k < c → FreeIsFree t k) → u ≡ with_states_by_lines t c
-free_passed t u b c is order free sound =
-    let was : (k : ℕ) → b ≤ k → k < c → state_in t k ≡ Free = λ k from within.
-    sym (ap (λ x. state_of (chosen_state t k (x && not (is_fixed (state_in t k))))) (not_below k b from)) ∙ sym (ap (λ x. state_in x k) is) ∙ free k from within in
-    is ∙ ap (λ f. record t { states = f }) (λ j i. free_at t b c i order (λ k from within. (was k from within, sound k within (was k from within))) j)
+-- blocks that need no sweep may be passed
+pub passed_swept : (t u : Tables) (b c : ℕ) → u ≡ with_states_by_lines t b → b ≤ c → ((k : ℕ) → b ≤ k → k < c → NeedsNoSweep u k) → ((k : ℕ) → k < c → FreeIsFree t k) → u ≡ with_states_by_lines t c
+passed_swept t u b c is order passed sound = is ∙ ap (λ f. record t { states = f }) (λ j i. kept_at t b c i order has j)
+  where
+    was : (k : ℕ) → b ≤ k → state_in u k ≡ state_in t k
+    was k from = ap (λ x. state_in x k) is ∙ ap (λ x. state_of (chosen_state t k (x && not (is_fixed (state_in t k))))) (not_below k b from)
+
+    has : (k : ℕ) → b ≤ k → k < c → HasStateByLines t k
+    has k from within = elim (passed k from within) [
+      | inl free ↦ λ _. let is_free = sym (was k from) ∙ free in zero_of_free (t.states k) is_free ∙ sym (ap state_number (sound k within is_free))
+      | inr by_lines ↦
+          subst (λ x. is_fixed (state_of (chosen_state t k (x && not (is_fixed (state_in t k))))) ≡ false → chosen_state t k (x && not (is_fixed (state_in t k))) ≡ state_number (state_by_lines t k))
+          (not_below k b from) (subst (λ x. HasStateByLines x k) is (has_state u k by_lines))
+    ]
+
+-- a block that comes next in a sweep is Free only where all its lines are
+pub sound_still : (t u : Tables) (b : ℕ) → u ≡ with_states_by_lines t b → FreeIsFree t b → FreeIsFree u b
+sound_still t u b is sound = subst (λ x. FreeIsFree x b) (sym is) (λ free. sound (sym (state_before t b) ∙ free))
 
 -- ---- what a sweep means
 

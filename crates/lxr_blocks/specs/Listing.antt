@@ -75,6 +75,10 @@ with_runs t at words = record t { runs = written t.runs at words }
 abbrev pub with_frees : Tables → ℕ → List ℕ → Tables
 with_frees t at numbers = record t { frees = written t.frees at numbers }
 
+-- with both, each from its beginning
+abbrev pub with_listed : Tables → List ℕ → List ℕ → Tables
+with_listed t runs frees = record t { runs = written t.runs 0 runs; frees = written t.frees 0 frees }
+
 -- the tables are these now, the rest is this, and nothing else has changed
 pub record TurnsWithRest (before after : Space) (t : Tables) (next end : ℕ) : Type 0 where
   pub tables : tables_of after ≡ t

@@ -1,6 +1,7 @@
 //! Clearing bits of the whole heap at once: block after block, and in a block a word of them at a time.
 ghost use Rattle.std.specs.Prelude.{◌≡◌, ◌*◌, ◌/◌, ◌<◌, ◌==◌, true};
 ghost use Rattle.lxr_image.specs.Spaces.{IsSpace, Turns, tables_of};
+ghost use Rattle.lxr_blocks.specs.declared.clearing_all.Bits.TheVariants.{Outs, Traced};
 ghost use Rattle.lxr_blocks.specs.ClearingAll.{AreUnsetInFree, bits_in_block, with_clear, words_in_block};
 
 use crate::in_use::next_in_use;
@@ -57,16 +58,41 @@ fn clear_block(space: &mut Space, bits: Bits, block: u32)
     }
 }
 
-/// Clears such bits of the whole heap. Blocks whose state is Free have none set, and are passed over.
+/// Clears which lines were handed out, in the blocks of which some may be.
+fn clear_outs(space: &mut Space)
+    requires { IsSpace space.old }
+    ensures { Turns space.old space.new (with_clear (tables_of space.old) Outs (λ k. true)) }
+{
+    let mut block = space.next_handed(0);
+    while block < space.limits.blocks {
+        clear_block(space, Bits::Outs, block);
+        space.note_none_out(block);
+        block = space.next_handed(block + 1);
+    }
+}
+
+/// Clears which granules have marked objects and gray ones. Blocks whose state is Free have none, and are passed over.
+fn clear_traced(space: &mut Space)
+    requires space { IsSpace space.old }
+    requires free { AreUnsetInFree (tables_of space.old) Traced }
+    ensures { Turns space.old space.new (with_clear (tables_of space.old) Traced (λ k. true)) }
+{
+    let mut from = 0;
+    while let Some(block) = next_in_use(space, from) {
+        clear_block(space, Bits::Traced, block);
+        from = block + 1;
+    }
+}
+
+/// Clears such bits of the whole heap. Blocks that have none set, by what is known or since their state is Free, are passed over.
 #[inline(always)]
 pub fn clear_all(space: &mut Space, bits: Bits)
     requires space { IsSpace space.old }
     requires free { AreUnsetInFree (tables_of space.old) bits }
     ensures { Turns space.old space.new (with_clear (tables_of space.old) bits (λ k. true)) }
 {
-    let mut from = 0;
-    while let Some(block) = next_in_use(space, from) {
-        clear_block(space, bits, block);
-        from = block + 1;
+    match bits {
+        Bits::Outs => clear_outs(space),
+        Bits::Traced => clear_traced(space),
     }
 }

@@ -9,15 +9,19 @@ use lxr_image::Space;
 /// How many blocks in a row are looked at at once.
 const BLOCKS_AT_ONCE: u32 = 8;
 
-/// Whether so many blocks in a row, from one on, are all Free. The state of a Free block is 0, so it is one test of their bits.
+/// Whether so many blocks in a row, from one on, are all Free. The state of a Free block is 0, so where the first is it is one test of
+/// the bits of all.
 #[inline(always)]
 fn are_free(space: &Space, first: u32) -> bool
     requires space { IsSpace space.now }
     requires blocks { first + BLOCKS_AT_ONCE ≤ space.now.limits.blocks }
     ensures { IsTrue result ↔ AreFreeBlocks (tables_of space.now) first (first + BLOCKS_AT_ONCE) }
 {
-    let mut states = 0;
-    for block in first..first + BLOCKS_AT_ONCE {
+    let mut states = space.state_word(first);
+    if states != 0 {
+        return false;
+    }
+    for block in first + 1..first + BLOCKS_AT_ONCE {
         states |= space.state_word(block);
     }
     states == 0

@@ -28,5 +28,5 @@ pub use listing::list_runs;
 pub use masks::free_mask;
 pub use placing::place_now;
 pub use states::{BlockState, longest, renew_state, state};
-pub use sweeping::{sweep_lines, swept_is_by_lines};
+pub use sweeping::{settle_lines, sweep_lines, swept_is_by_lines};
 pub use zeros::zero_lines;

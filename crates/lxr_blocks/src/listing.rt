@@ -2,7 +2,7 @@
 ghost use Rattle.std.specs.Prelude.{◌≡◌, ◌+◌, ◌-◌, ◌*◌, ◌<◌, ◌≤◌, length};
 ghost use Rattle.lxr_image.specs.Spaces.{IsSpace, Turns, tables_of};
 ghost use Rattle.lxr_blocks.specs.Lines.{free_in, runs_below};
-ghost use Rattle.lxr_blocks.specs.Listing.{TurnsWithRest, block_runs, listed_frees, listed_runs, numbers_from, run_words, with_frees, with_lists, with_runs};
+ghost use Rattle.lxr_blocks.specs.Listing.{TurnsWithRest, block_runs, listed_frees, listed_runs, numbers_from, run_words, with_frees, with_listed, with_lists, with_runs};
 
 use crate::in_use::next_in_use;
 use crate::masks::{edges_of, free_mask, next_run};
@@ -47,6 +47,7 @@ fn list_block(space: &mut Space, block: u32, first: u32) -> u32
 }
 
 /// Writes the numbers of blocks in a row that are Free to the table of free blocks from an index on, and answers the index behind them.
+#[inline(always)]
 fn list_between(space: &mut Space, from: u32, end: u32, first: u32) -> u32
     requires space { IsSpace space.old }
     requires blocks { (from ≤ end) × (end ≤ space.old.limits.blocks) }
@@ -62,34 +63,23 @@ fn list_between(space: &mut Space, from: u32, end: u32, first: u32) -> u32
     at
 }
 
-/// Writes the runs of all blocks, and answers how many there are.
-fn list_all_runs(space: &mut Space) -> u32
+/// Writes the runs of all blocks and the numbers of all Free ones, and answers how many there are of each.
+fn list_all(space: &mut Space) -> (u32, u32)
     requires { IsSpace space.old }
-    ensures runs { Turns space.old space.new (with_runs (tables_of space.old) 0 (listed_runs (tables_of space.old) space.old.limits.blocks)) }
-    ensures count { result ≡ length (listed_runs (tables_of space.old) space.old.limits.blocks) }
+    ensures lists { Turns space.old space.new (with_listed (tables_of space.old) (listed_runs (tables_of space.old) space.old.limits.blocks) (listed_frees (tables_of space.old) space.old.limits.blocks)) }
+    ensures runs { result.0 ≡ length (listed_runs (tables_of space.old) space.old.limits.blocks) }
+    ensures frees { result.1 ≡ length (listed_frees (tables_of space.old) space.old.limits.blocks) }
 {
-    let mut count = 0;
+    let mut runs = 0;
+    let mut frees = 0;
     let mut at = 0;
     while let Some(block) = next_in_use(space, at) {
-        count = list_block(space, block, count);
+        runs = list_block(space, block, runs);
+        frees = list_between(space, at, block, frees);
         at = block + 1;
     }
-    count
-}
-
-/// Writes the numbers of all Free blocks, and answers how many there are.
-fn list_all_frees(space: &mut Space) -> u32
-    requires { IsSpace space.old }
-    ensures frees { Turns space.old space.new (with_frees (tables_of space.old) 0 (listed_frees (tables_of space.old) space.old.limits.blocks)) }
-    ensures count { result ≡ length (listed_frees (tables_of space.old) space.old.limits.blocks) }
-{
-    let mut count = 0;
-    let mut at = 0;
-    while let Some(block) = next_in_use(space, at) {
-        count = list_between(space, at, block, count);
-        at = block + 1;
-    }
-    list_between(space, at, space.limits.blocks, count)
+    frees = list_between(space, at, space.limits.blocks, frees);
+    (runs, frees)
 }
 
 /// Lists the runs of all Partly and World blocks, and all Free blocks, in order, and answers how many runs there
@@ -100,8 +90,7 @@ pub fn list_runs(space: &mut Space) -> u32
     ensures count { result ≡ length (listed_runs (tables_of space.old) space.old.limits.blocks) }
     ensures space { IsSpace space.new }
 {
-    let runs = list_all_runs(space);
-    let frees = list_all_frees(space);
+    let (runs, frees) = list_all(space);
     space.put_cursor(RUN_CURSOR, 0);
     space.put_cursor(RUN_COUNT, u64::from(runs));
     space.put_cursor(FREE_BLOCK_CURSOR, 0);

@@ -10,10 +10,31 @@ ghost use Rattle.std.specs.Int.{bit_at, trailing_zeros, w64, w128};
 use lxr_image::Space;
 use lxr_layout::{LINES_IN_BLOCK, Run};
 
-/// The free lines of a block: bit i is set exactly where line i is free. It reads the words of the block's counts and
-/// the two words of its out bits, each once.
+/// The free lines of a block: bit i is set exactly where line i is free. Where they aren't known, they are counted.
 #[inline(always)]
 pub fn free_mask(space: &Space, block: u32) -> u128
+    requires space { IsSpace space.now }
+    requires block { block < space.now.limits.blocks }
+    ensures { IsMask result (free_in (tables_of space.now) block) }
+{
+    match known_mask(space, block) {
+        Some(mask) => mask,
+        None => counted_mask(space, block),
+    }
+}
+
+/// The free lines of a block, where they are known without a look at its tables.
+#[inline(always)]
+pub(crate) fn known_mask(space: &Space, block: u32) -> Option<u128>
+    ensures { IfSome result (λ mask. IsMask mask (free_in (tables_of space.now) block)) }
+{
+    space.known_free(block)
+}
+
+/// The free lines of a block by its tables. It reads the words of the block's counts and the two words of its out bits,
+/// each once.
+#[inline(always)]
+pub(crate) fn counted_mask(space: &Space, block: u32) -> u128
     requires space { IsSpace space.now }
     requires block { block < space.now.limits.blocks }
     ensures { IsMask result (free_in (tables_of space.now) block) }

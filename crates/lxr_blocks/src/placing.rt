@@ -13,7 +13,7 @@ ghost use Rattle.lxr_blocks.specs.Placing.{IsFirstFit, IsFull, IsPlaced, IsRest,
 ghost use Rattle.lxr_blocks.specs.States.{IsOpenRun};
 
 use crate::handing::hand_out_of;
-use crate::masks::{free_mask, run_starts};
+use crate::masks::{counted_mask, known_mask, run_starts};
 use crate::skipping::may_have;
 use crate::states::{BlockState, state};
 use lxr_image::Space;
@@ -32,6 +32,22 @@ struct Fit {
     free: u128,
 }
 
+/// The free lines of a block. None where it has no so many in a row, if a few of its lines tell.
+fn searched_mask(space: &Space, block: u32, lines: u8) -> Option<u128>
+    requires space { IsSpace space.now }
+    requires block { block < space.now.limits.blocks }
+    ensures none { IfNone result ((q : Run) → IsFreeRun (tables_of space.now) space.now.limits.blocks q → q.block ≡ block → q.lines < lines) }
+    ensures free { IfSome result (λ free. IsMask free (free_in (tables_of space.now) block)) }
+{
+    if let Some(mask) = known_mask(space, block) {
+        return Some(mask);
+    }
+    if lines >= LONG && !may_have(space, block, lines) {
+        return None;
+    }
+    Some(counted_mask(space, block))
+}
+
 /// The first so many free lines in a row of a block.
 fn fit_in(space: &Space, block: u32, lines: u8) -> Option<Fit>
     requires space { IsSpace space.now }
@@ -42,10 +58,7 @@ fn fit_in(space: &Space, block: u32, lines: u8) -> Option<Fit>
     ensures first { IfSome result (λ fit. (q : Run) → IsFreeRun (tables_of space.now) space.now.limits.blocks q → q.block ≡ block → q.lines ≡ lines → fit.run.line ≤ q.line) }
     ensures free { IfSome result (λ fit. IsMask fit.free (free_in (tables_of space.now) fit.run.block)) }
 {
-    if lines >= LONG && !may_have(space, block, lines) {
-        return None;
-    }
-    let free = free_mask(space, block);
+    let free = searched_mask(space, block, lines)?;
     let starts = run_starts(free, lines);
     if starts == 0 {
         return None;
@@ -74,7 +87,7 @@ fn fit_outside(space: &Space, block: u32, lines: u8) -> Option<Fit>
     }
 }
 
-/// The first so many free lines in a row of these blocks, outside Chosen ones.
+/// The first so many free lines in a row of these blocks, outside Chosen ones. It passes blocks that are known to have none.
 fn fit_among(space: &Space, from: u32, end: u32, lines: u8) -> Option<Fit>
     requires space { IsSpace space.now }
     requires blocks { (from ≤ end) × (end ≤ space.now.limits.blocks) }
@@ -85,10 +98,12 @@ fn fit_among(space: &Space, from: u32, end: u32, lines: u8) -> Option<Fit>
     ensures first { IfSome result (λ fit. (q : Run) → IsOpenRun (tables_of space.now) space.now.limits.blocks q → q.block ≡ fit.run.block → q.lines ≡ lines → fit.run.line ≤ q.line) }
     ensures free { IfSome result (λ fit. IsMask fit.free (free_in (tables_of space.now) fit.run.block)) }
 {
-    for block in from..end {
+    let mut block = space.next_long(from, lines);
+    while block < end {
         if let Some(fit) = fit_outside(space, block, lines) {
             return Some(fit);
         }
+        block = space.next_long(block + 1, lines);
     }
     None
 }

@@ -1,7 +1,8 @@
 //! States of blocks.
-ghost use Rattle.std.specs.Prelude.{◌≡◌, ◌<◌, ◌≤◌, ℕ};
+ghost use Rattle.std.specs.Prelude.{◌≡◌, ◌<◌, ◌≤◌, ℕ, IsBitSet};
 ghost use Rattle.lxr_layout.specs.declared.runs.Run.{Run};
 ghost use Rattle.lxr_image.specs.Spaces.{IsSpace, Turns, tables_of};
+ghost use Rattle.lxr_image.specs.Settled.{IsLongest};
 ghost use Rattle.lxr_image.specs.Tables.{Tables};
 ghost use Rattle.lxr_blocks.specs.Lines.{IsFreeRun, free_in};
 ghost use Rattle.lxr_blocks.specs.Masks.{IsMask};
@@ -102,6 +103,21 @@ pub fn renew_state(space: &mut Space, block: u32)
     put_state_by(space, block, free);
 }
 
+/// The lines of the longest run of a block with these free lines.
+pub(crate) fn longest_of(free: u128) -> u8
+    ensures { IsLongest (λ i. IsBitSet free i) result }
+{
+    let mut edges = edges_of(free);
+    let mut best = 0;
+    let mut line = 0;
+    while let Some((run, behind)) = next_run(edges, 0) {
+        best = best.max(run.lines);
+        line = u32::from(run.line) + u32::from(run.lines);
+        edges = behind;
+    }
+    best
+}
+
 /// The lines of the longest run of a block.
 fn longest_in(space: &Space, block: u32) -> u8
     requires space { IsSpace space.now }
@@ -109,15 +125,7 @@ fn longest_in(space: &Space, block: u32) -> u8
     ensures bound { (q : Run) → IsFreeRun (tables_of space.now) space.now.limits.blocks q → q.block ≡ block → q.lines ≤ result }
     ensures reached { (q : Run) × IsFreeRun (tables_of space.now) space.now.limits.blocks q × (q.block ≡ block) × (q.lines ≡ result) }
 {
-    let mut edges = edges_of(free_mask(space, block));
-    let mut best = 0;
-    let mut line = 0;
-    while let Some((run, behind)) = next_run(edges, block) {
-        best = best.max(run.lines);
-        line = u32::from(run.line) + u32::from(run.lines);
-        edges = behind;
-    }
-    best
+    longest_of(free_mask(space, block))
 }
 
 /// The lines of the longest run of a block, and 0 where it is Chosen.

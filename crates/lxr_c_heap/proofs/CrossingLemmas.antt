@@ -32,7 +32,10 @@ use Rattle.lxr_tables.specs.contracts.pages.Pages as Pages
 use Rattle.lxr_tables.specs.contracts.words.PlainWords as PlainWords
 use Rattle.lxr_tables.specs.contracts.words.PlainWords.TheInside as in_words
 use Rattle.lxr_image.specs.contracts.space.Space as Space
+use Rattle.lxr_image.specs.contracts.words.HeapWords as HeapWords
+use Rattle.lxr_image.specs.contracts.words.HeapWords.TheInside as in_heap_words
 use Rattle.lxr_image.proofs.registers.RegisterFile.TheSendSync as registers
+use Rattle.lxr_image.proofs.settled.Settled.TheSendSync as settled
 use Rattle.lxr_image.proofs.space.Tally.TheSendSync as tally
 use Rattle.lxr_large_bodies.proofs.bodies.Bodies.TheSendSync as bodies
 use Rattle.lxr_heap.specs.contracts.LargeHeap as LargeHeap
@@ -87,8 +90,11 @@ closed_send = search (sendable, in_closed_send) depth 20
 maybe_closed_send : IsSend (Option.the_row (ClosedWords.the_row Global.the_row ghosts))
 maybe_closed_send = search (sendable, closed_send) depth 20
 
-words_send : IsSend PlainWords.the_row
-words_send = view_send in_words.the_row _ _ _ _ (declared_send in_words.the_type (maybe_closed_send, tt))
+plain_send : IsSend PlainWords.the_row
+plain_send = view_send in_words.the_row _ _ _ _ (declared_send in_words.the_type (maybe_closed_send, tt))
+
+words_send : IsSend HeapWords.the_row
+words_send = view_send in_heap_words.the_row _ _ _ _ (declared_send in_heap_words.the_type (plain_send, (settled.the_send, tt)))
 
 -- ---- a heap
 

@@ -14,6 +14,7 @@ use Rattle.lxr_graph.specs.declared.Reply.TheVariants as reply
 use Rattle.lxr_graph.specs.History.{Call, Item, calls_of, replies_of}
 use Rattle.lxr_graph.specs.State.{State, object_at, refs_of, values_of, register_at}
 use Rattle.lxr_graph.specs.Step.{add_to, added, get_from, got, load_from, loaded, put_at, put_to, step, store_to, stored, swap_in, swapped}
+use Rattle.lxr_graph.proofs.RowLemmas.{slice_get-there}
 use Rattle.lxr_invariant.proofs.EntryLemmas.{equal_numbers, same_number}
 use Rattle.lxr_model.specs.Belongs.{asks_for_pause, calls_since_pause, has_asked}
 use Rattle.lxr_model.specs.Kinds.{collect_called}
@@ -346,7 +347,7 @@ collected_is_told b s mutators is states each many none = one_test (collect_call
     forth holds =
         let since = collected_since (limits_of b).threads b.every b.history s.history is.extends none holds in
         let some = since.some in let few = since.few in
-        let (m, there) = item_at mutators (since.thread - 1) (omega (arith, some, few, many)) in
+        let (m, there) = slice_get-there mutators (since.thread - 1) (omega (arith, some, few, many)) in
         let (shown, rests, told) = each (since.thread - 1) m there in
         let number = is.called.threads (since.thread - 1) (thread_state_of m) shown in
         let same : since.thread ≡ m.thread = omega (arith, number, some) in
@@ -355,11 +356,6 @@ collected_is_told b s mutators is states each many none = one_test (collect_call
         (subst (λ n. calls_of n s.history ≡ since.calls.0 ++ op.Collect ∷ []) same since.calls.1)
         (subst (λ n. replies_of n s.history ≡ since.replies.0 ++ reply.Collected ∷ []) same since.replies.1)
         (subst (λ n. calls_since_pause n b.history < calls_since_pause n s.history) same since.later))
-      where
-        item_at : (xs : List Mutating) (i : ℕ) → i < length xs → (x : Mutating) × (slice_get xs i ≡ Some x)
-        item_at [] i less = absurd (omega (arith, less))
-        item_at (x ∷ xs) zero less = (x, refl)
-        item_at (x ∷ xs) (suc i) less = item_at xs i (omega (arith, less))
 
     back : list_any has_collected mutators ≡ true → collect_called s.history ≡ true
     back holds =

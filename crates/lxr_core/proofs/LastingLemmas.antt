@@ -1,11 +1,12 @@
 -- What no step, order, beginning or end of an epoch changes of a mutator holds of each of them throughout: so it is of whether they tell names.
-use Rattle.std.proofs.Common.{◌≡◌, ℕ, zero, suc, ◌<◌, refl, sym, ap, subst, ◌∙◌, inl, inr, arith, Bool, true, false, List, [], ◌∷◌, length, map}
+use Rattle.std.proofs.Common.{◌≡◌, ℕ, zero, suc, refl, sym, ap, subst, ◌∙◌, inl, inr, arith, Bool, true, false, List, [], ◌∷◌, map}
 use Rattle.std.specs.Prelude.{⊤, Option, Some, None, slice_get, slice_index, slice_set, option_map}
 use Rattle.std.proofs.lemmas.List.{length-map}
 use Rattle.std.proofs.lemmas.Bool.{cases_eq}
 use Rattle.std.proofs.lemmas.Option.{slice_get-map, slice_get_within}
 use Rattle.lxr_layout.specs.declared.Place.{Place}
 use Rattle.lxr_graph.specs.declared.Op.{Op}
+use Rattle.lxr_graph.proofs.RowLemmas.{slice_get-there}
 use Rattle.lxr_image.specs.declared.space.Space.{Space}
 use Rattle.lxr_actor.specs.declared.Action.{Action}
 use Rattle.lxr_actor.specs.declared.Core.{Core}
@@ -39,12 +40,6 @@ pub record Lasts (P : Mutating → Type 0) : Type 0 where
 -- it holds of each
 abbrev Each : (Mutating → Type 0) → List Mutating → Type 0
 Each P mutators = (i : ℕ) (m : Mutating) → slice_get mutators i ≡ Some m → P m
-
--- what stands at an index within
-within : {X : Type 0} (xs : List X) (i : ℕ) → i < length xs → (x : X) × (slice_get xs i ≡ Some x)
-within [] i less = absurd (omega (arith, less))
-within (x ∷ xs) zero less = (x, refl)
-within (x ∷ xs) (suc i) less = within xs i (omega (arith, less))
 
 module _ (P : Mutating → Type 0) (lasts : Lasts P) where
   -- ---- actors
@@ -134,7 +129,7 @@ module _ (P : Mutating → Type 0) (lasts : Lasts P) where
       let inside = slice_get_within started i b at in
       let many = length-map started unfilled in
       let as_many = have.as_many in
-      let (a, there) = within resting i (omega (arith, inside, many, as_many)) in
+      let (a, there) = slice_get-there resting i (omega (arith, inside, many, as_many)) in
       let begun = have.started i a there (slice_get_within resting i a there) in
       let shown : slice_get (map unfilled started) i ≡ Some (unfilled b) = slice_get-map unfilled started i ∙ ap (option_map unfilled) at in
       let same : started_again a (row_in before.registers.items i) ≡ unfilled b = cc in

@@ -20,4 +20,5 @@ pub mod TurnLemmas
 pub mod EpochOrderLemmas
 pub mod OrderedLemmas
 pub mod ExecutionLemmas
+pub mod LineLemmas
 pub mod TracerLemmas

@@ -15,6 +15,7 @@ ghost use Rattle.lxr_core.specs.Starting.{HasRegisters, MayStart, started_again}
 
 use crate::closing::collect;
 use crate::filling::fill_pocket;
+use crate::lodged::Lodged;
 use lxr_actor::{Action, Actor};
 use lxr_decrement::Decrementer;
 use lxr_graph::Op;
@@ -26,9 +27,9 @@ use lxr_trace::Tracer;
 /// An actor of any kind.
 #[derive(Drop)]
 pub enum AnyActor {
-    Mutator(Mutator),
-    Decrementer(Decrementer),
-    Tracer(Tracer),
+    Mutator(Lodged<Mutator>),
+    Decrementer(Lodged<Decrementer>),
+    Tracer(Lodged<Tracer>),
 }
 
 impl AnyActor {

@@ -8,18 +8,26 @@
 mod actors;
 mod closing;
 mod filling;
+mod lodged;
 mod opening;
 
-ghost use Rattle.lxr_core.specs.Executions.{EpochInvariantHolds};
+ghost use Rattle.lxr_core.specs.Executions.{EpochInvariantHolds, EpochKeepsLines};
 ghost use Rattle.lxr_core.specs.Ordering.{OrdersAreAsked, OrdersKeepEpochs, ScriptsGoOn, ScriptsStay};
 
 pub use actors::AnyActor;
 pub use closing::close_epoch;
+pub use lodged::Lodged;
 pub use opening::open_epoch;
 
 /// After every schedule of an epoch its invariant holds, no cursor has fallen, and each next step fits.
 pub fn epoch_invariant_holds()
     ensures { EpochInvariantHolds }
+{}
+
+/// No schedule of an epoch moves a line: where objects begin, which lines are out, the states of blocks, and each count that is no
+/// object's stay.
+pub fn epoch_keeps_lines()
+    ensures { EpochKeepsLines }
 {}
 
 /// An operation that a mutator is ordered while the epoch runs keeps all of the epoch's invariant.

@@ -8,9 +8,10 @@ use Rattle.std.proofs.lemmas.List.{get_or_append_left, get_or-append_right, get_
 use Rattle.lxr_layout.specs.declared.TheConstants.{REGISTERS}
 use Rattle.lxr_layout.specs.declared.Name.{Name}
 use Rattle.lxr_layout.specs.declared.Place.{Place}
+use Rattle.lxr_layout.specs.Registers.{nil}
 use Rattle.lxr_graph.specs.State.{State}
 use Rattle.lxr_image.specs.Image.{ArePlacesOf, place_word}
-use Rattle.lxr_core_invariant.specs.ThreadStates.{ThreadState, held, nil}
+use Rattle.lxr_core_invariant.specs.ThreadStates.{ThreadState, held}
 use Rattle.lxr_core_invariant.specs.Logged.{logs_of}
 use Rattle.lxr_core_invariant.specs.Imaged.{HoldsRegisters}
 use Rattle.lxr_core_close.specs.Safepoint.{registers_of}

@@ -21,7 +21,8 @@ use Rattle.lxr_invariant.specs.Counting.{count_at, is_done, undone}
 use Rattle.lxr_invariant.proofs.EntryLemmas.{one_if, same_number, unlike_number}
 use Rattle.lxr_core_access.specs.Decrementers.{Decrementing}
 use Rattle.lxr_core_invariant.specs.Counted.{AreCounted, IsHandledAt, StandsAt, in_hand, one_at, references_at}
-use Rattle.lxr_core_inv_counts.proofs.HandLemmas.{hand_in_hands, name_there}
+use Rattle.lxr_core_invariant.proofs.FieldLemmas.{name_found}
+use Rattle.lxr_core_inv_counts.proofs.HandLemmas.{hand_in_hands}
 use Rattle.lxr_core_inv_counts.proofs.GroundLemmas.{IsGround}
 
 -- a name of a list that isn't done is one of those that count
@@ -64,7 +65,7 @@ module _ (l : Limits) (t : Tables) (ds : List Decrementing) (m : Moment) (at : N
 
   -- the references of what stands at a place
   pub refs_there : (place : ℕ) (n : Name) → IsTrue (has m.unreclaimed n) → place ≡ at n → references_at m at place ≡ refs_of (object_at m.last.graph n)
-  refs_there place n member there = ap (λ z. refs_of (object_at m.last.graph z)) (name_there at m.unreclaimed n place member (λ x h e. ground.one x n h member e) there)
+  refs_there place n member there = ap (λ z. refs_of (object_at m.last.graph z)) (name_found at m.unreclaimed n place member (λ x h e. ground.one x n h member e) there)
 
   -- one for what stands at a place, and for no other
   pub one_is : (place : ℕ) (v n : Name) → IsTrue (has m.unreclaimed v) → IsTrue (has m.unreclaimed n) → place ≡ at v → one_at at place n ≡ one_if (same_name n v)

@@ -15,7 +15,7 @@ use Rattle.lxr_model_counting.proofs.DistinctLemmas.{first_has, has_split, later
 use Rattle.lxr_invariant.specs.Counting.{entries_between, is_done, undone}
 use Rattle.lxr_invariant.proofs.EntryLemmas.{one_if}
 use Rattle.lxr_core_access.specs.Decrementers.{Decrementing, Rests, AsksCount, AsksStart, Claims, ReadsHeader, AsksTracing, ReadsReference, MakesGray, AsksLowered, Lowers, AsksCursor, AsksNumber, Draws, ReadsEntry}
-use Rattle.lxr_core_invariant.specs.Counted.{draws_soon, in_hand, in_hands, name_at, soon_drawn}
+use Rattle.lxr_core_invariant.specs.Counted.{draws_soon, in_hand, in_hands, soon_drawn}
 
 -- ---- all decrementers
 
@@ -181,14 +181,3 @@ undone_claimed g t u at (x ∷ us) n o distinct member clear set others =
       | inl k ↦ not_both (has us x) (subst (λ z. IsTrue (has us z)) (same_names y n k ∙ sym same) h) distinct.0
       | inr k ↦ k
     ]
-
--- ---- the name at a place
-
-pub name_there : (at : Name → ℕ) (us : List Name) (n : Name) (place : ℕ) → IsTrue (has us n) → ((x : Name) → IsTrue (has us x) → at x ≡ at n → x ≡ n) → place ≡ at n → name_at at us place ≡ n
-name_there at [] n place member one is = absurd (cc)
-name_there at (x ∷ us) n place member one is = elim (eqb_tells (at x) place) [
-  | inl q ↦ ap (λ b. cond b x (name_at at us place)) q.0 ∙ one x (first_has x us) (q.1 ∙ is)
-  | inr q ↦
-      let there : IsTrue (has us n) = elim (has_split x us n member) [ inl e ↦ absurd (q.1 (ap at (sym e) ∙ sym is)) | inr h ↦ h ] in
-      ap (λ b. cond b x (name_at at us place)) q.0 ∙ name_there at us n place there (λ y h. one y (later_has x us y h)) is
-]

@@ -4,6 +4,7 @@ use Rattle.std.specs.Prelude.{Some, None, IsTrue, slice_get, slice_set, slice_in
 use Rattle.lxr_layout.specs.declared.Name.{Name}
 use Rattle.lxr_layout.specs.declared.Place.{Place}
 use Rattle.lxr_layout.specs.declared.Shape.{Shape}
+use Rattle.lxr_layout.specs.Registers.{nil}
 use Rattle.lxr_graph.specs.declared.Op.{Op}
 use Rattle.lxr_graph.specs.Names.{has}
 use Rattle.lxr_graph.specs.State.{Object, object_at, shape_of, world_name}
@@ -11,7 +12,7 @@ use Rattle.lxr_image.specs.Tables.{Tables}
 use Rattle.lxr_image.specs.Image.{IsImage}
 use Rattle.lxr_model.specs.Moments.{Moment}
 use Rattle.lxr_invariant.specs.AbstractState.{members}
-use Rattle.lxr_core_invariant.specs.ThreadStates.{Intent, Stage, ThreadState, is_end, nil, op_now, Plain, AtReference, AtValue, Clears, Stores, DrewRun, HasRun, NeedsBlock, DrewBlock, HasBlock, Makes, GivesUp, Rests, Works, Names, Through}
+use Rattle.lxr_core_invariant.specs.ThreadStates.{Intent, Stage, ThreadState, is_end, op_now, Plain, AtReference, AtValue, Clears, Stores, DrewRun, HasRun, NeedsBlock, DrewBlock, HasBlock, Makes, GivesUp, Rests, Works, Names, Through}
 use Rattle.lxr_core_invariant.specs.ThreadStates as why
 use Rattle.lxr_core_invariant.specs.EpochStates.{Beginning, EpochState, limits_of, moment_of}
 use Rattle.lxr_core_invariant.specs.Events.{WorksOn, done_with, found_reply, stage_after}

@@ -25,7 +25,7 @@ use Rattle.lxr_image.specs.Tables.{Tables}
 use Rattle.lxr_image.specs.Reads.{IsName, granule_of}
 use Rattle.lxr_image.specs.Image.{IsImage, granules_of}
 use Rattle.lxr_image.specs.ImageLaws.{IsOutside, IsRoom, IsUnheld, WritesNew, placed, with_heap}
-use Rattle.lxr_image.proofs.ImageLemmas.{Rewrites, just_at, not_at, outside_keeps_image, rewrites}
+use Rattle.lxr_image.proofs.ImageLemmas.{Rewrites, just_at, not_at, outside_keeps_image, rewrites, member_stands}
 use Rattle.lxr_image.proofs.NewLemmas.{new_keeps_image}
 use Rattle.lxr_alloc.specs.Spans.{granule_count}
 use Rattle.lxr_model.specs.Moments.{Moment, moment}
@@ -41,7 +41,6 @@ use Rattle.lxr_core_invariant.specs.Called.{waiting_in}
 use Rattle.lxr_core_invariant.specs.Events.{done_with}
 use Rattle.lxr_core_invariant.specs.Happening.{intends, shows, stands}
 use Rattle.lxr_core_invariant.specs.Imaged.{IsPlacedIn, IsWipedTo, Knows}
-use Rattle.lxr_core_invariant.proofs.TellingLemmas.{stands_there}
 use Rattle.lxr_core_invariant.proofs.ActingLemmas.{acts}
 use Rattle.lxr_core_invariant.proofs.ObjectLemmas.{extends_before, renewed_row}
 use Rattle.lxr_core_inv_heap.proofs.ImageKnowLemmas.{KeepsMembers, all_kept, knows_done, still_placed}
@@ -54,7 +53,7 @@ use Rattle.lxr_core_inv_heap.proofs.ImageWordLemmas.{IsWordOf, MakesAt, maker_ap
 making_outside : (b : Beginning) (s : EpochState) (i place : ℕ) (shape : Shape) (word : ℕ) → IsEpoch b s → MakesAt s i place shape → IsWordOf place shape word
     → IsOutside s.at (moment_of b s).state.graph (members (moment_of b s)) word
 making_outside b s i place shape word is makes within n o member there =
-    let standing = stands_there s.tables (limits_of b).blocks s.at (moment_of b s).state.graph (members (moment_of b s)) n o is.image.placed.image member there in
+    let standing = member_stands s.tables (limits_of b).blocks s.at (moment_of b s).state.graph (members (moment_of b s)) n o is.image.placed.image member there in
     elim (leb_tells (first_word (s.at n)) word) [
       | inr h ↦ inl h.1
       | inl h ↦ elim (leb_tells (first_word (s.at n) + word_count (shape_of o)) word) [
@@ -203,7 +202,7 @@ begins_in p q c w some_p some_q even first behind = (omega arith, omega arith)
 member_apart : (b : Beginning) (s : EpochState) (i place : ℕ) (shape : Shape) (n : Name) (o : Object) → IsEpoch b s → MakesAt s i place shape → 1 ≤ place → IsTrue (has (members (moment_of b s)) n)
     → object_at (moment_of b s).state.graph n ≡ Some o → (granule_of (s.at n) + granules_of o ≤ granule_of place) ⊎ (granule_of place + granule_count shape ≤ granule_of (s.at n))
 member_apart b s i place shape n o is makes some member there =
-    let st = stands_there s.tables (limits_of b).blocks s.at (moment_of b s).state.graph (members (moment_of b s)) n o is.image.placed.image member there in
+    let st = member_stands s.tables (limits_of b).blocks s.at (moment_of b s).state.graph (members (moment_of b s)) n o is.image.placed.image member there in
     elim (leb_tells (granule_of (s.at n) + granules_of o) (granule_of place)) [
       | inl h ↦ inl h.1
       | inr h ↦ elim (leb_tells (granule_of place + granule_count shape) (granule_of (s.at n))) [

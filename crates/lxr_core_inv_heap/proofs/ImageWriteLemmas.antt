@@ -16,7 +16,7 @@ use Rattle.lxr_graph.proofs.RowLemmas.{object_at-with_reference, object_at-with_
 use Rattle.lxr_image.specs.Tables.{Tables}
 use Rattle.lxr_image.specs.Image.{IsImage, place_word}
 use Rattle.lxr_image.specs.ImageLaws.{with_heap}
-use Rattle.lxr_image.proofs.ImageLemmas.{Rewrites, put_keeps_image, rewrites, store_keeps_image, words_cover}
+use Rattle.lxr_image.proofs.ImageLemmas.{Rewrites, put_keeps_image, rewrites, store_keeps_image, words_cover, member_stands}
 use Rattle.lxr_model.specs.Moments.{Moment, made_after}
 use Rattle.lxr_invariant.specs.AbstractState.{members}
 use Rattle.lxr_core_invariant.specs.ThreadStates.{ThreadState, AtValue, Stores, Works, held}
@@ -26,7 +26,6 @@ use Rattle.lxr_core_invariant.specs.Events.{Does, done_with, value_word}
 use Rattle.lxr_core_invariant.specs.Events as event
 use Rattle.lxr_core_invariant.specs.Happening.{happen, loaded_with, stands}
 use Rattle.lxr_core_invariant.specs.Imaged.{IsPlacedIn, Knows}
-use Rattle.lxr_core_invariant.proofs.TellingLemmas.{stands_there}
 use Rattle.lxr_core_invariant.proofs.ShowingLemmas.{op_formed}
 use Rattle.lxr_core_invariant.proofs.ActingLemmas.{IsReferenceBase, IsValueBase, acts, base_holds, reference_base, value_base}
 use Rattle.lxr_core_invariant.proofs.ReplyStepLemmas.{add_ok, put_ok, store_ok, swap_ok}
@@ -68,7 +67,7 @@ written_placed : (b : Beginning) (s : EpochState) (i : ℕ) (v w : ThreadState) 
 written_placed b s i v w o word value is shown writes knows =
     let m : Moment = moment_of b s in
     let k : Moment = next_moment m v.thread o in
-    let placed = stands_there s.tables (limits_of b).blocks s.at m.state.graph (members m) writes.name writes.object is.image.placed.image writes.member writes.there in
+    let placed = member_stands s.tables (limits_of b).blocks s.at m.state.graph (members m) writes.name writes.object is.image.placed.image writes.member writes.there in
     still_placed b s (stands b s i v o w (with_heap s.tables word value)) i v w is.image.placed shown (world_member m is.lives) (opening_member b s is) writes.image
     (rewritten_kept m k s.at writes.name writes.object writes.other writes.there writes.which writes.shape writes.names)
     (λ j u differ shows. wiped_beside s.tables word value u.stage (λ place shape wiped stage within.

@@ -1,5 +1,5 @@
 -- How bits and logs go on where no bit is cleared: objects keep their places and shapes, and each log its entries.
-use Rattle.std.proofs.Common.{◌≡◌, ℕ, ◌<◌, ◌≤◌, zero, suc, refl, sym, ap, subst, ◌∙◌, inl, inr, ◌⊎◌, List, [], ◌∷◌, length, map, get_or}
+use Rattle.std.proofs.Common.{◌≡◌, ℕ, ◌<◌, ◌≤◌, sym, ap, subst, ◌∙◌, inl, inr, ◌⊎◌, List, length, map, get_or}
 use Rattle.std.specs.Prelude.{Option, Some, None, IsTrue, slice_get, slice_set, ◌↔◌}
 use Rattle.std.specs.List.Sorted.{IsPermutation}
 use Rattle.std.proofs.lemmas.Bool.Decides.{eqb_tells}
@@ -13,8 +13,8 @@ use Rattle.lxr_image.specs.Image.{place_word}
 use Rattle.lxr_model.specs.Moments.{Field, Moment}
 use Rattle.lxr_model_counting.specs.Distinct.{AreDistinctFields, has_field}
 use Rattle.lxr_model_counting.specs.Following.{FollowsPause}
-use Rattle.lxr_model_counting.proofs.DistinctLemmas.{first_field, later_field}
 use Rattle.lxr_invariant.specs.Standing.{AreLogged, HasBits, IsUnwritten, entry_of, word_of_field}
+use Rattle.lxr_invariant.proofs.RestLemmas.{entries_alike, same_word}
 use Rattle.lxr_core_invariant.specs.ThreadStates.{ThreadState, Clears, Stores, Works}
 use Rattle.lxr_core_invariant.specs.EpochStates.{Beginning, EpochState, limits_of, moment_of}
 use Rattle.lxr_core_invariant.specs.Logged.{AreBitsAndLogs, MayRecord, logs_of, with_cleared}
@@ -149,20 +149,6 @@ bits_on t u m st made at to cleared same keeps is = record {
 
 -- ---- entries
 
--- entries stay where each does
-entries_on : (m k : Moment) (at to : Name → ℕ) (ws : List Field) → ((n : Name) (i : ℕ) → IsTrue (has_field ws (n, i)) → entry_of k to (n, i) ≡ entry_of m at (n, i)) → map (entry_of k to) ws ≡ map (entry_of m at) ws
-entries_on m k at to [] each = refl
-entries_on m k at to (w ∷ ws) each =
-    ap (λ z. z ∷ map (entry_of k to) ws) (each w.0 w.1 (first_field w ws))
-    ∙ ap (λ z. entry_of m at w ∷ z) (entries_on m k at to ws (λ n i h. each n i (later_field w ws (n, i) h)))
-
--- what a list has at an index keeps its place where all that the list has do
-same_word : (at to : Name → ℕ) (rs : List (Option Name)) (i : ℕ) → ((q : Name) → slice_get rs i ≡ Some (Some q) → to q ≡ at q) → place_word to (get_or rs i None) ≡ place_word at (get_or rs i None)
-same_word at to [] i each = refl
-same_word at to (None ∷ rs) zero each = refl
-same_word at to (Some q ∷ rs) zero each = each q refl
-same_word at to (r ∷ rs) (suc i) each = same_word at to rs i each
-
 -- the entry of an unreclaimed object's field stays, since what it referred to is unreclaimed too
 entry_on : (m : Moment) (st : State) (made : List Name) (ws : List Field) (at to : Name → ℕ) (n : Name) (i : ℕ) → FollowsPause m → KeepsUnreclaimed m st at to → IsTrue (has m.unreclaimed n)
     → entry_of (turned m st made ws) to (n, i) ≡ entry_of m at (n, i)
@@ -223,7 +209,7 @@ turns_keep_logs t u m st made at to cleared ws thread_states room i v w follows 
   once = is.once;
   fields = is.fields;
   bits = bits_on t u m st made at to cleared same keeps is.bits;
-  logs = subst (λ z. IsPermutation z (logs_of (slice_set thread_states i w))) (sym (entries_on m (turned m st made ws) at to cleared (λ n k h. entry_on m st made ws at to n k follows keeps (is.fields n k h).0)))
+  logs = subst (λ z. IsPermutation z (logs_of (slice_set thread_states i w))) (sym (entries_alike m (turned m st made ws) at to cleared (λ n k h. entry_on m st made ws at to n k follows keeps (is.fields n k h).0)))
       (subst (λ z. IsPermutation (map (entry_of m at) cleared) z) (sym (logs_stay thread_states i v w there turns.log)) is.logs);
   written = turns.were_cleared;
   cleared_are = λ n k h. elim (is.cleared_are n k h) [

@@ -4,6 +4,7 @@ use Rattle.std.specs.Prelude.{Option, Some, None, replicate, slice_set}
 use Rattle.lxr_layout.specs.declared.TheConstants.{REGISTERS}
 use Rattle.lxr_layout.specs.declared.Name.{Name}
 use Rattle.lxr_layout.specs.declared.Place.{Place}
+use Rattle.lxr_layout.specs.Registers.{nil}
 use Rattle.lxr_graph.specs.declared.Op.{Op}
 use Rattle.lxr_graph.specs.declared.Op.TheVariants as op
 use Rattle.lxr_graph.specs.declared.Reply.{Reply}
@@ -13,7 +14,7 @@ use Rattle.lxr_graph.specs.Step.{IsWellFormed, cleared, step}
 use Rattle.lxr_image.specs.Tables.{Tables}
 use Rattle.lxr_model.specs.Moments.{Moment}
 use Rattle.lxr_invariant.proofs.EntryLemmas.{equal_numbers}
-use Rattle.lxr_core_invariant.specs.ThreadStates.{ThreadState, held, nil}
+use Rattle.lxr_core_invariant.specs.ThreadStates.{ThreadState, held}
 use Rattle.lxr_core_invariant.specs.Events.{Does, at_once, bad_at}
 use Rattle.lxr_core_invariant.proofs.HeldLemmas.{in_register}
 use Rattle.lxr_core_invariant.proofs.TellingLemmas.{same_by_place}

@@ -7,6 +7,7 @@ use Rattle.lxr_graph.specs.declared.Op.{Op}
 use Rattle.lxr_graph.specs.declared.Op.TheVariants as op
 use Rattle.lxr_graph.specs.declared.Reply.{Reply}
 use Rattle.lxr_graph.specs.History.{Call, Item, Pause, Renew, calls_of}
+use Rattle.lxr_graph.proofs.RowLemmas.{slice_get-there}
 use Rattle.lxr_invariant.proofs.EntryLemmas.{same_number, unlike_number}
 use Rattle.lxr_model.specs.Belongs.{writes_reference}
 use Rattle.lxr_model.specs.Kinds.{ends}
@@ -279,12 +280,6 @@ has_ends b s i v is shown = elim (ended_or_not s v v.stage (is.called.each i v s
       record { few = omega (arith, none); ended = λ e. absurd (omega (arith, none, e)) }
 ]
 
--- a list has an item below its length
-some_at : {A : Type 0} (xs : List A) (j : ℕ) → j < length xs → (x : A) × (slice_get xs j ≡ Some x)
-some_at [] j within = absurd (omega (arith, within))
-some_at (x ∷ xs) zero within = (x, refl)
-some_at (x ∷ xs) (suc j) within = some_at xs j (omega (arith, within))
-
 -- as many ends as threads stand in the history exactly where all have ended
 pub ends_are_counted : EndsAreCounted
 ends_are_counted b s terms is same_threads legal =
@@ -292,7 +287,7 @@ ends_are_counted b s terms is same_threads legal =
     let many = is.called.as_many in
     let sum : ends s.history ≡ sum_below (ends_of s.history) threads =
     ends_are_sum threads s.history (extended_of threads b.every b.history s.history is.extends (legal_of terms threads b.history same_threads legal)) in
-    let thread_state_at : (j : ℕ) → j < threads → (v : ThreadState) × (slice_get s.thread_states j ≡ Some v) = λ j within. some_at s.thread_states j (omega (arith, within, many)) in
+    let thread_state_at : (j : ℕ) → j < threads → (v : ThreadState) × (slice_get s.thread_states j ≡ Some v) = λ j within. slice_get-there s.thread_states j (omega (arith, within, many)) in
     let each : (j : ℕ) (v : ThreadState) → slice_get s.thread_states j ≡ Some v → HasEnds s j v = λ j v shown. has_ends b s j v is shown in (
       λ all i v shown.
           let within = slice_get_within s.thread_states i v shown in

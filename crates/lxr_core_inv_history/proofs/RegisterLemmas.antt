@@ -7,12 +7,13 @@ use Rattle.std.proofs.lemmas.List.{get_or-append_right, get_or-drop, get_or-repl
 use Rattle.lxr_layout.specs.declared.TheConstants.{REGISTERS}
 use Rattle.lxr_layout.specs.declared.Name.{Name}
 use Rattle.lxr_layout.specs.declared.Place.{Place}
+use Rattle.lxr_layout.specs.Registers.{nil}
 use Rattle.lxr_graph.specs.declared.Op.{Op}
 use Rattle.lxr_graph.specs.declared.Op.TheVariants as op
 use Rattle.lxr_graph.specs.State.{State, object_at, refs_of, values_of, register_at, register_index, with_register}
 use Rattle.lxr_graph.specs.Step.{IsWellFormed, add_to, added, cleared, get_from, load_from, loaded, put_at, put_to, step, store_to, stored, swap_in, swapped}
 use Rattle.lxr_image.specs.Image.{place_word}
-use Rattle.lxr_core_invariant.specs.ThreadStates.{ThreadState, nil}
+use Rattle.lxr_core_invariant.specs.ThreadStates.{ThreadState}
 use Rattle.lxr_core_invariant.specs.Imaged.{HoldsRegisters}
 
 -- ---- one register

@@ -1,16 +1,15 @@
 -- How far cursors may be, and how many objects there are where each listed block is drawn.
-use Rattle.std.proofs.Common.{◌≡◌, ◌≢◌, ℕ, zero, suc, ◌+◌, ◌-◌, ◌*◌, ◌/◌, ◌^◌, ◌<◌, ◌≤◌, refl, sym, ap, subst, ◌∙◌, inl, inr, ◌⊎◌, arith, true, false, List, length}
-use Rattle.std.specs.Prelude.{Some, IsTrue}
-use Rattle.std.proofs.lemmas.Bool.{cases_Bool, false_from_ne_true}
+use Rattle.std.proofs.Common.{◌≡◌, ◌≢◌, ℕ, zero, suc, ◌+◌, ◌*◌, ◌/◌, ◌^◌, ◌<◌, ◌≤◌, refl, sym, ap, subst, ◌∙◌, inl, inr, ◌⊎◌, arith, false, List, length}
+use Rattle.std.specs.Prelude.{IsTrue}
+use Rattle.std.proofs.lemmas.Bool.{false_from_ne_true}
 use Rattle.std.proofs.lemmas.List.{length-append}
-use Rattle.lxr_layout.specs.declared.TheConstants.{FREE_BLOCK_COUNT, FREE_BLOCK_CURSOR, GRANULES_IN_BLOCK, GRANULES_IN_LINE, LINES_IN_BLOCK, RUN_CURSOR}
+use Rattle.lxr_layout.specs.declared.TheConstants.{FREE_BLOCK_COUNT, FREE_BLOCK_CURSOR, GRANULES_IN_BLOCK, LINES_IN_BLOCK, RUN_CURSOR}
 use Rattle.lxr_layout.specs.declared.Name.{Name}
 use Rattle.lxr_graph.specs.History.{Item}
 use Rattle.lxr_graph.specs.Names.{has}
-use Rattle.lxr_graph.specs.State.{Graph, world_name}
+use Rattle.lxr_graph.specs.State.{world_name}
 use Rattle.lxr_image.specs.Tables.{Tables}
 use Rattle.lxr_image.specs.Reads.{granule_of}
-use Rattle.lxr_image.specs.Image.{IsImage, granules_of}
 use Rattle.lxr_blocks.specs.declared.states.BlockState.{BlockState}
 use Rattle.lxr_blocks.specs.declared.states.BlockState.TheVariants.{Chosen, Free, Partly, Whole, World}
 use Rattle.lxr_blocks.specs.Lines.{free_in}
@@ -19,11 +18,10 @@ use Rattle.lxr_blocks.proofs.LineLemmas.{all_free_state}
 use Rattle.lxr_model.specs.Moments.{Moment, moment}
 use Rattle.lxr_model.proofs.HistoryLemmas.{made_old}
 use Rattle.lxr_invariant.specs.AbstractState.{members}
-use Rattle.lxr_invariant.specs.Lines.{IsTakenBy}
 use Rattle.lxr_invariant.specs.Listed.{FreeBlocksAreListed}
 use Rattle.lxr_invariant.proofs.NameLemmas.{in_either, in_first, in_second}
 use Rattle.lxr_full.proofs.TakenLines.{all_or_one}
-use Rattle.lxr_full.proofs.RoomLemmas.{member_takes, pigeonhole}
+use Rattle.lxr_full.proofs.RoomLemmas.{member_takes, pigeonhole, begins_in_block, told_free}
 use Rattle.lxr_alloc.specs.declared.TheConstants.{MOST_OPERATIONS}
 use Rattle.lxr_core_invariant.specs.ThreadStates.{Stage, ThreadState, GivesUp, Rests, Works, Names, Through}
 use Rattle.lxr_core_invariant.specs.EpochStates.{Beginning, Extends, EpochState, same, called, limits_of, moment_of, opening_tables}
@@ -79,25 +77,6 @@ member_stays threads every h k n (called l t o r before call) member =
     ]
 
 -- ---- a block that isn't Free has an object
-
--- an object that has a granule of a line of a block begins in that block
-block_of : (first granules k b i : ℕ) → first ≤ k → k < first + granules → first / GRANULES_IN_BLOCK ≡ (first + granules - 1) / GRANULES_IN_BLOCK → k / GRANULES_IN_LINE ≡ LINES_IN_BLOCK * b + i → i < LINES_IN_BLOCK → first / GRANULES_IN_BLOCK ≡ b
-block_of first granules k b i low high whole line within = omega arith
-
--- so does the object of a line that is taken
-begins_in_block : (t : Tables) (blocks : ℕ) (g : Graph) (at : Name → ℕ) (ms : List Name) (b i : ℕ) → IsImage t blocks at g ms → i < LINES_IN_BLOCK → IsTakenBy g at ms (LINES_IN_BLOCK * b + i)
-    → (n : Name) × IsTrue (has ms n) × (granule_of (at n) / GRANULES_IN_BLOCK ≡ b)
-begins_in_block t blocks g at ms b i image within taken =
-    let a = image.stands taken.0 taken.3 in
-    let found = taken.4.object in
-    let both : Some taken.1 ≡ Some a.0 = sym found ∙ a.1 in
-    let same_object : taken.1 ≡ a.0 = cc in
-    let high : taken.2 < granule_of (at taken.0) + granules_of a.0 = subst (λ o. taken.2 < granule_of (at taken.0) + granules_of o) same_object taken.4.behind in
-    (taken.0, taken.3, block_of (granule_of (at taken.0)) (granules_of a.0) taken.2 b i taken.4.first high a.2.whole.in_block taken.5 within)
-
--- a free line is told by a test
-told_free : (t : Tables) (b i : ℕ) → IsTrue (free_in t b i) ⊎ ¬ IsTrue (free_in t b i)
-told_free t b i = elim (cases_Bool (free_in t b i)) [ inl free ↦ inl free | inr taken ↦ inr (λ free. let w : true ≡ false = sym free ∙ taken in cc) ]
 
 -- a state that is neither Chosen nor World may change with free lines
 unfixed : (state : BlockState) → state ≢ Chosen → state ≢ World → is_fixed state ≡ false

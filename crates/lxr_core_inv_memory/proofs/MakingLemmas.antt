@@ -15,6 +15,7 @@ use Rattle.lxr_graph.proofs.RowLemmas.{next_none, object_at-with_new}
 use Rattle.lxr_image.specs.Reads.{granule_of}
 use Rattle.lxr_image.specs.Image.{granules_of}
 use Rattle.lxr_image.specs.ImageLaws.{placed}
+use Rattle.lxr_image.proofs.NewLemmas.{placed_here}
 use Rattle.lxr_alloc.specs.Spans.{block_span, granule_count}
 use Rattle.lxr_model.specs.Moments.{Moment}
 use Rattle.lxr_invariant.specs.AbstractState.{members}
@@ -41,10 +42,6 @@ shape_of-fresh s = λ j. record { refs = length-replicate {A = Option Name} s.re
 -- it takes the granules of that shape
 size_fresh : (s : Shape) → granules_of (fresh s) ≡ granule_count s
 size_fresh s = ap (λ z. word_count z / 2) (shape_of-fresh s)
-
--- a placed name stands at its place
-placed_here : (at : Name → ℕ) (n : Name) (p : ℕ) → placed at n p n ≡ p
-placed_here at n p = ap (λ b. cond b p (at n)) (same_itself n)
 
 -- names that aren't equal are told apart
 unlike : (m n : Name) → (m ≡ n → ⊥) → same_name m n ≡ false

@@ -1,8 +1,7 @@
 -- What helpers find in an epoch: what stands at a place, which references it has and had, and the names of the snapshot of the trace that
 -- runs. All that they know of places is told of the epoch's beginning, and holds of its moments.
-use Rattle.std.proofs.Common.{◌≡◌, ℕ, ◌<◌, ◌≤◌, sym, ap, subst, ◌∙◌, inl, inr, arith, cond, List, [], ◌∷◌, IsTrue, length, get_or}
+use Rattle.std.proofs.Common.{◌≡◌, ℕ, ◌<◌, ◌≤◌, sym, ap, subst, ◌∙◌, arith, List, IsTrue, length, get_or}
 use Rattle.std.specs.Prelude.{Option, Some, None, slice_get}
-use Rattle.std.proofs.lemmas.Bool.Decides.{eqb_tells}
 use Rattle.std.proofs.lemmas.Option.{slice_get-get_or}
 use Rattle.lxr_layout.specs.declared.Name.{Name}
 use Rattle.lxr_layout.specs.declared.limits.Limits.{Limits}
@@ -15,26 +14,16 @@ use Rattle.lxr_image.specs.Image.{place_word}
 use Rattle.lxr_image.specs.Reads.{granule_of}
 use Rattle.lxr_model.specs.Moments.{Moment, Trace}
 use Rattle.lxr_model.specs.Reachable.{Reachable, Refers}
-use Rattle.lxr_model_counting.proofs.DistinctLemmas.{first_has, has_split, later_has}
 use Rattle.lxr_invariant.specs.AbstractState.{AbstractState, members}
 use Rattle.lxr_invariant.specs.Tracing.{IsTracedBy}
 use Rattle.lxr_invariant.proofs.NameLemmas.{in_first}
 use Rattle.lxr_core_invariant.specs.EpochStates.{Beginning, EpochState, limits_of, moment_of}
-use Rattle.lxr_core_invariant.specs.Counted.{StandsAt, name_at, references_at}
+use Rattle.lxr_core_invariant.specs.Counted.{StandsAt, references_at}
 use Rattle.lxr_core_invariant.specs.Epoch.{IsEpoch}
 use Rattle.lxr_core_invariant.proofs.HeldLemmas.{IsHeld, reference_held}
 use Rattle.lxr_core_invariant.proofs.PauseLemmas.{AreUnmoved, HaveOnePause, one_pause, unmoved}
 use Rattle.lxr_core_invariant.proofs.TellingLemmas.{one_place}
-
--- the name at a place is that of the object that stands there
-name_there : (at : Name → ℕ) (us : List Name) (n : Name) (place : ℕ) → IsTrue (has us n) → ((x : Name) → IsTrue (has us x) → at x ≡ at n → x ≡ n) → place ≡ at n → name_at at us place ≡ n
-name_there at [] n place member one is = absurd (cc)
-name_there at (x ∷ us) n place member one is = elim (eqb_tells (at x) place) [
-  | inl q ↦ ap (λ b. cond b x (name_at at us place)) q.0 ∙ one x (first_has x us) (q.1 ∙ is)
-  | inr q ↦
-      let there : IsTrue (has us n) = elim (has_split x us n member) [ inl e ↦ absurd (q.1 (ap at (sym e) ∙ sym is)) | inr h ↦ h ] in
-      ap (λ b. cond b x (name_at at us place)) q.0 ∙ name_there at us n place there (λ y h. one y (later_has x us y h)) is
-]
+use Rattle.lxr_core_invariant.proofs.FieldLemmas.{name_found}
 
 -- places and granules count from one, and from zero
 pub granule_tells : (p q : ℕ) → 1 ≤ p → 1 ≤ q → granule_of p ≡ granule_of q → p ≡ q
@@ -103,7 +92,7 @@ module _ (b : Beginning) (s : EpochState) (is : IsEpoch b s) where
   pub references_there : (place : ℕ) (u : Name) → IsTrue (has now.unreclaimed u) → place ≡ s.at u → references_at was stood place ≡ refs_of (object_at now.last.graph u)
   references_there place u in_u there =
       let u_was = member_was u in_u in
-      let name = name_there stood was.unreclaimed u place u_was
+      let name = name_found stood was.unreclaimed u place u_was
       (λ x h e. one_name x u (member_now x h) in_u (still x h ∙ e ∙ sym (still u u_was))) (there ∙ still u u_was) in
       ap (λ z. refs_of (object_at was.last.graph z)) name ∙ ap (λ z. refs_of (object_at z.graph u)) (sym pause.last)
 

@@ -13,9 +13,10 @@ use Rattle.lxr_graph.specs.declared.Reply.{Reply}
 use Rattle.lxr_graph.specs.declared.Reply.TheVariants as reply
 use Rattle.lxr_graph.specs.History.{Item, Call, Pause, Renew, replies_of}
 use Rattle.lxr_graph.specs.Renewing.{renewed_graph, renewed_object}
-use Rattle.lxr_graph.specs.State.{Graph, Object, State, index_in_row, object_at, register_at, row_of, with_reference_at, with_value_at}
+use Rattle.lxr_graph.specs.State.{Graph, Object, State, index_in_row, object_at, register_at, row_of}
 use Rattle.lxr_graph.specs.Step.{IsReply, add_to, added, fresh, get_from, got, load_from, loaded, put_at, put_to, state_after, step, store_to, stored, swap_in, swapped}
 use Rattle.lxr_graph.proofs.RowLemmas.{row_of-set}
+use Rattle.lxr_graph.proofs.RowCounts.{same_lengths, length-with_reference_at, length-with_value_at}
 use Rattle.lxr_model.specs.Legal.{IsCall, IsLegalSoFar, Replies}
 use Rattle.lxr_model.specs.Moments.{moment, opening_moment}
 use Rattle.lxr_model.specs.Terms.{Terms}
@@ -34,14 +35,6 @@ joined u t r = cond {A = ℕ} (nat_eq u t) (news r) 0
 record CountsMore (s : State) (t : ℕ) (s' : State) (r : Reply) : Type 0 where
   pub rows : length s'.graph ≡ length s.graph
   pub objects : (u : ℕ) → length (row_of s'.graph u) ≡ length (row_of s.graph u) + joined u t r
-
--- each row is as long as before where the row that is written is
-same_lengths : (g : Graph) (t : ℕ) (r : List Object) (u : ℕ) → length r ≡ length (row_of g t) → length (row_of (slice_set g t r) u) ≡ length (row_of g u)
-same_lengths [] t r u h = refl
-same_lengths (q ∷ g) zero r zero h = h
-same_lengths (q ∷ g) zero r (suc u) h = refl
-same_lengths (q ∷ g) (suc t) r zero h = refl
-same_lengths (q ∷ g) (suc t) r (suc u) h = same_lengths g t r u h
 
 none_added : (u t : ℕ) (r : Reply) (n m : ℕ) → tells_new r ≡ false → n ≡ m → n ≡ m + joined u t r
 none_added u t r n m old e = let none = nothing (nat_eq u t) r old in omega (arith, e, none)
@@ -76,14 +69,6 @@ pushed s t o registers name there = record {
       where
         plus_none : (n : ℕ) (c : Bool) → c ≡ false → n ≡ n + cond {A = ℕ} c 1 0
         plus_none n c e = let none : cond {A = ℕ} c 1 0 ≡ 0 = ap (λ (k : Bool). cond {A = ℕ} k 1 0) e in omega (arith, none)
-
-length-with_reference_at : (row : List Object) (at i : ℕ) (v : Option Name) (o : Option Object) → length (with_reference_at row at i v o) ≡ length row
-length-with_reference_at row at i v None = refl
-length-with_reference_at row at i v (Some o) = length-set _ _ _
-
-length-with_value_at : (row : List Object) (at i v : ℕ) (o : Option Object) → length (with_value_at row at i v o) ≡ length row
-length-with_value_at row at i v None = refl
-length-with_value_at row at i v (Some o) = length-set _ _ _
 
 -- ---- the cases of a step
 

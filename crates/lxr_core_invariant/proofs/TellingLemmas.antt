@@ -1,5 +1,5 @@
 -- What the words at a member's place tell: its header says its name and shape, and no other member has its place.
-use Rattle.std.proofs.Common.{◌≡◌, ◌≢◌, ℕ, ◌^◌, ◌<◌, ◌≤◌, refl, sym, ap, subst, ◌∙◌, inl, inr, arith, true, false, List, nat_eq}
+use Rattle.std.proofs.Common.{◌≡◌, ◌≢◌, ℕ, ◌^◌, ◌<◌, ◌≤◌, refl, sym, ap, ◌∙◌, inl, inr, arith, true, false, List, nat_eq}
 use Rattle.std.specs.Prelude.{Option, Some, None, IsTrue}
 use Rattle.lxr_layout.specs.declared.TheConstants.{MOST_BLOCKS}
 use Rattle.lxr_layout.specs.declared.Name.{Name}
@@ -11,8 +11,9 @@ use Rattle.lxr_graph.specs.Names.{has, same_held, same_name}
 use Rattle.lxr_graph.specs.State.{Graph, Object, object_at, shape_of}
 use Rattle.lxr_graph.proofs.NameSets.{same_names}
 use Rattle.lxr_image.specs.Tables.{Tables}
-use Rattle.lxr_image.specs.Image.{IsImage, Stands, place_word}
+use Rattle.lxr_image.specs.Image.{IsImage, place_word}
 use Rattle.lxr_image.proofs.ReadLemmas.{header_unpacked}
+use Rattle.lxr_image.proofs.ImageLemmas.{member_stands}
 use Rattle.lxr_model.specs.Moments.{Moment}
 use Rattle.lxr_invariant.specs.AbstractState.{members}
 use Rattle.lxr_invariant.proofs.EntryLemmas.{same_number, unlike_number}
@@ -23,20 +24,11 @@ use Rattle.lxr_core_invariant.proofs.HeldLemmas.{IsHeld}
 nothing_below : (p : ℕ) → 1 ≤ p → p ≢ 0
 nothing_below p some e = omega arith
 
--- a member's object stands at its place
-pub stands_there : (t : Tables) (blocks : ℕ) (at : Name → ℕ) (g : Graph) (ms : List Name) (n : Name) (o : Object) → IsImage t blocks at g ms → IsTrue (has ms n) → object_at g n ≡ Some o
-    → Stands t blocks at n o
-stands_there t blocks at g ms n o image member there =
-    let a = image.stands n member in
-    let same : Some a.0 ≡ Some o = sym a.1 ∙ there in
-    let same_o : a.0 ≡ o = cc in
-    subst (Stands t blocks at n) same_o a.2
-
 -- what its header tells
 pub told_there : (t : Tables) (blocks : ℕ) (at : Name → ℕ) (g : Graph) (ms : List Name) (n : Name) (o : Object) → IsImage t blocks at g ms → IsTrue (has ms n) → object_at g n ≡ Some o
     → TellsObject (t.heap (first_word (at n))) n (shape_of o)
 told_there t blocks at g ms n o image member there =
-    let st = stands_there t blocks at g ms n o image member there in
+    let st = member_stands t blocks at g ms n o image member there in
     ap header_of st.whole.header ∙ header_unpacked n (shape_of o) st.whole.name st.whole.shape
 
 -- and nothing else is told there

@@ -23,7 +23,7 @@ use Rattle.lxr_image.specs.Tables.{Tables, changed}
 use Rattle.lxr_image.specs.ImageLaws.{placed, with_heap}
 use Rattle.lxr_alloc.specs.Spans.{FitsSpan, IsInBlock, IsMedium, block_span, run_span}
 use Rattle.lxr_invariant.specs.AbstractState.{members}
-use Rattle.lxr_core_invariant.specs.ThreadStates.{Intent, Reason, Stage, ThreadState, held, is_end, nil, op_now}
+use Rattle.lxr_core_invariant.specs.ThreadStates.{Intent, Reason, Stage, ThreadState, held, is_end, op_now}
 use Rattle.lxr_core_invariant.specs.ThreadStates.{Plain, AtReference, AtValue, Clears, Stores, DrewRun, HasRun, NeedsBlock, DrewBlock, HasBlock, Makes, GivesUp}
 use Rattle.lxr_core_invariant.specs.ThreadStates.{Rests, Works, Names, Through}
 use Rattle.lxr_core_invariant.specs.ThreadStates as why

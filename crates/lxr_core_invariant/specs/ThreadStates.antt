@@ -3,6 +3,7 @@ use Rattle.std.specs.Prelude.{ℕ, Bool, true, false, Option, List, [], ◌∷�
 use Rattle.lxr_layout.specs.declared.LogEntry.{LogEntry}
 use Rattle.lxr_layout.specs.declared.Place.{Place}
 use Rattle.lxr_layout.specs.declared.Shape.{Shape}
+use Rattle.lxr_layout.specs.Registers.{nil}
 use Rattle.lxr_base.specs.Roomy.{Roomy}
 use Rattle.lxr_graph.specs.declared.Op.{Op}
 use Rattle.lxr_graph.specs.declared.Op.TheVariants as op
@@ -74,10 +75,6 @@ all_of operations = operations ++ op.End ∷ []
 -- the operation that is in progress or, between two units, comes next
 abbrev pub op_now : ThreadState → Option Op
 op_now v = slice_get (all_of v.operations) (length v.replies)
-
--- nil as a place
-abbrev pub nil : Place
-nil = record { 0 = 0 }
 
 -- the place that a register holds
 abbrev pub held : ThreadState → ℕ → Place

@@ -1,6 +1,6 @@
 -- What a mutator's machine keeps as it goes on, and what it shows then.
-use Rattle.std.proofs.Common.{◌≡◌, ◌≢◌, ℕ, zero, suc, ◌+◌, ◌<◌, ◌≤◌, Bool, true, false, arith, refl, sym, subst, ap, ◌∙◌, inl, inr, List, [], ◌∷◌, ◌++◌, length, length-append}
-use Rattle.std.specs.Prelude.{Some, nat_eq, nat_le, nat_lt, slice_get, slice_index_or, if◌then◌else◌}
+use Rattle.std.proofs.Common.{◌≡◌, ◌≢◌, ℕ, zero, suc, ◌+◌, ◌<◌, ◌≤◌, Bool, true, false, arith, refl, sym, ap, ◌∙◌, inl, inr, List, [], ◌∷◌, ◌++◌, length, length-append}
+use Rattle.std.specs.Prelude.{Some, nat_eq, nat_le, slice_get, slice_index_or, if◌then◌else◌}
 use Rattle.std.specs.List.{All}
 use Rattle.std.proofs.lemmas.List.Elements.{All-get_or}
 use Rattle.lxr_layout.specs.Spaces.{regions_of}
@@ -21,7 +21,7 @@ use Rattle.lxr_mutator.specs.Mutating.{Mutating, op_now, register, rests_in}
 use Rattle.lxr_mutator.specs.Mutators.{AreInHeap, AreRegisters, IsHeld, IsMutator, IsOperation, IsSetup, MayBeIn, setup_of}
 use Rattle.lxr_mutator.specs.Steps.{done_with, ended, finished, with_register}
 use Rattle.lxr_mutator.proofs.RegisterLemmas.{held_anywhere, registers_cleared, registers_set}
-use Rattle.lxr_core_invariant.specs.ThreadStates.{ThreadState, all_of, is_end, Rests, Through}
+use Rattle.lxr_core_invariant.specs.ThreadStates.{is_end, Rests, Through}
 use Rattle.lxr_core_invariant.specs.ThreadStates as why
 use Rattle.lxr_core_invariant.specs.Events as epoch
 use Rattle.lxr_core_sim_mutator.specs.Showing.{IsMutatorOf, IsNew, IsSteadyIn, stage_in, thread_state_of}

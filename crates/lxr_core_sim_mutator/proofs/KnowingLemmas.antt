@@ -1,6 +1,6 @@
 -- What an epoch says of the words that a mutator's steps act on.
-use Rattle.std.proofs.Common.{◌≡◌, ℕ, zero, suc, ◌+◌, ◌-◌, ◌*◌, ◌/◌, ◌%◌, ◌^◌, ◌<◌, ◌≤◌, Bool, true, false, arith, refl, sym, subst, ap, ◌∙◌, inl, inr, List, [], ◌∷◌, length}
-use Rattle.std.specs.Prelude.{Option, Some, None, IsTrue, nat_le, nat_lt, slice_get, if◌then◌else◌}
+use Rattle.std.proofs.Common.{◌≡◌, ℕ, ◌+◌, ◌-◌, ◌*◌, ◌/◌, ◌%◌, ◌^◌, ◌<◌, ◌≤◌, Bool, true, false, arith, refl, sym, subst, ap, ◌∙◌, inl, inr, length}
+use Rattle.std.specs.Prelude.{Option, Some, None, IsTrue, nat_le, nat_lt, if◌then◌else◌}
 use Rattle.lxr_layout.specs.declared.TheConstants.{FREE_BLOCK_COUNT, GRANULES_IN_BLOCK, GRANULES_IN_LINE, LINES_IN_BLOCK, MOST_BLOCKS, MOST_GRANULES, RUN_COUNT, WORDS_IN_BLOCK}
 use Rattle.lxr_layout.specs.declared.Header.{Header}
 use Rattle.lxr_layout.specs.declared.Header.TheVariants as header
@@ -12,8 +12,10 @@ use Rattle.lxr_layout.specs.Places.{field_word, first_word}
 use Rattle.lxr_layout.specs.Runs.{word_of_run}
 use Rattle.lxr_graph.specs.Names.{has}
 use Rattle.lxr_graph.specs.State.{Object, object_at, shape_of}
+use Rattle.lxr_graph.proofs.RowLemmas.{slice_get-there}
 use Rattle.lxr_image.specs.Image.{IsImage, Stands, place_word}
 use Rattle.lxr_image.specs.Tables.{Tables}
+use Rattle.lxr_image.proofs.ImageLemmas.{member_stands}
 use Rattle.lxr_model.specs.Moments.{Moment}
 use Rattle.lxr_invariant.specs.AbstractState.{members}
 use Rattle.lxr_core_invariant.specs.EpochStates.{Beginning, EpochState, limits_of, moment_of, opening_tables}
@@ -22,7 +24,7 @@ use Rattle.lxr_core_invariant.specs.Imaged.{IsReferenceAt, IsValueAt}
 use Rattle.lxr_core_invariant.specs.Drawn.{Drawers, MakesIn}
 use Rattle.lxr_core_invariant.specs.Epoch.{IsEpoch}
 use Rattle.lxr_core_invariant.proofs.HeldLemmas.{IsHeld, reference_held}
-use Rattle.lxr_core_invariant.proofs.TellingLemmas.{stands_there, told_there}
+use Rattle.lxr_core_invariant.proofs.TellingLemmas.{told_there}
 
 -- the heap has no more blocks than the largest one
 pub few_blocks : (b : Beginning) (s : EpochState) → IsEpoch b s → (limits_of b).blocks ≤ MOST_BLOCKS
@@ -56,7 +58,7 @@ whole_words place g words blocks some half in_heap even one = (omega arith, omeg
 pub header_there : (t : Tables) (blocks : ℕ) (at : Name → ℕ) (m : Moment) (n : Name) (o : Object) (place : ℕ) → IsImage t blocks at m.state.graph (members m) → blocks ≤ MOST_BLOCKS
     → IsTrue (has (members m) n) → object_at m.state.graph n ≡ Some o → place ≡ at n → HasHeader t blocks place n (shape_of o)
 header_there t blocks at m n o place image few member is stands =
-    let st = stands_there t blocks at m.state.graph (members m) n o image member is in
+    let st = member_stands t blocks at m.state.graph (members m) n o image member is in
     let low = low_place t blocks at n o st few in
     let some = st.placed in
     let words = whole_words (at n) (word_count (shape_of o) / 2) (word_count (shape_of o)) blocks st.placed refl st.whole.in_heap (omega arith) (omega arith) in
@@ -90,12 +92,6 @@ pub record HasReference (t : Tables) (blocks place index : ℕ) : Type 0 where
   pub low : t.heap (field_word place index) ≤ MOST_GRANULES
   pub some : 1 ≤ place
 
--- a list has an element at each index within it
-entry_there : {A : Type 0} (xs : List A) (i : ℕ) → i < length xs → (x : A) × (slice_get xs i ≡ Some x)
-entry_there [] i h = absurd (omega arith)
-entry_there (x ∷ xs) zero h = (x, refl)
-entry_there (x ∷ xs) (suc i) h = entry_there xs i (omega arith)
-
 -- a reference lies within its object
 inside : (first words index refs values end : ℕ) → words ≡ (1 + refs + values + 1) / 2 * 2 → index < refs → first + words ≤ end → first + 1 + index < end
 inside first words index refs values end is within h = omega arith
@@ -111,8 +107,8 @@ reference_there b s place index is at =
     let few = few_blocks b s is in
     let image = is.image.placed.image in
     let head = header_there s.tables (limits_of b).blocks s.at m at.name at.object place image few at.member at.is at.stands in
-    let held = entry_there at.object.refs index at.within in
-    let st = stands_there s.tables (limits_of b).blocks s.at m.state.graph (members m) at.name at.object image at.member at.is in
+    let held = slice_get-there at.object.refs index at.within in
+    let st = member_stands s.tables (limits_of b).blocks s.at m.state.graph (members m) at.name at.object image at.member at.is in
     let word = st.refs index held.0 held.1 in
     let low = low_word s.tables (limits_of b).blocks s.at m held.0 image few (reference_held m at.name at.object index held.0 is.lives at.member at.is held.1) in
     record {

@@ -25,7 +25,7 @@ use Rattle.lxr_image.specs.Tables.{Tables, changed, tables_in}
 use Rattle.lxr_image.specs.Spaces.{IsSpace, Turns, tables_of}
 use Rattle.lxr_image.specs.Image.{IsImage, Stands, place_word}
 use Rattle.lxr_image.specs.ImageLaws.{with_heap}
-use Rattle.lxr_image.proofs.ImageLemmas.{Rewrites, put_keeps_image, rewrites, store_keeps_image}
+use Rattle.lxr_image.proofs.ImageLemmas.{Rewrites, put_keeps_image, rewrites, store_keeps_image, member_stands}
 use Rattle.lxr_image.proofs.SpaceLemmas.{space_alike}
 use Rattle.lxr_model.specs.Moments.{Field, Moment, after_call, with_field, written_with}
 use Rattle.lxr_model_counting.specs.Distinct.{has_field}
@@ -35,7 +35,7 @@ use Rattle.lxr_invariant.specs.Standing.{AreLogged, HasBits, entry_of}
 use Rattle.lxr_invariant.proofs.FrameLemmas.{bits_still, image_still}
 use Rattle.lxr_core_invariant.specs.Imaged.{IsReferenceAt}
 use Rattle.lxr_core_invariant.proofs.HeldLemmas.{reference_held}
-use Rattle.lxr_core_invariant.proofs.TellingLemmas.{small_place, stands_there}
+use Rattle.lxr_core_invariant.proofs.TellingLemmas.{small_place}
 use Rattle.lxr_core_invariant.proofs.ReplyStepLemmas.{get_bad, get_ok, get_range, load_bad, load_ok, load_range, put_bad, put_ok, put_range, store_bad, store_ok, store_range}
 use Rattle.lxr_core_inv_heap.proofs.LogsReferenceLemmas.{clear_is_cleared, cleared_bits, old_is_read, set_is_uncleared}
 use Rattle.lxr_direct.specs.declared.reading.Base.{Base}
@@ -130,7 +130,7 @@ module _ (s : Space) (g : AbstractState) (t serial : ℕ) (may : MayOperate s g 
     -- ---- a field is read
 
     whole : Stands tables s.limits.blocks g.at n o
-    whole = stands_there tables s.limits.blocks g.at m.state.graph (members m) n o image at.member at.there
+    whole = member_stands tables s.limits.blocks g.at m.state.graph (members m) n o image at.member at.there
 
     -- the place in a reference is that of what it refers to
     small_word : (p : ℕ) → p < 2 ^ 32 → p % 2 ^ 32 ≡ p

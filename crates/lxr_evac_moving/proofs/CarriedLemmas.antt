@@ -15,6 +15,7 @@ use Rattle.lxr_image.specs.Tables.{Tables, changed}
 use Rattle.lxr_image.specs.Spaces.{Turns, tables_of}
 use Rattle.lxr_image.specs.Reads.{granule_of}
 use Rattle.lxr_image.specs.ImageLaws.{placed}
+use Rattle.lxr_image.proofs.NewLemmas.{placed_here, placed_other}
 use Rattle.lxr_blocks.specs.Kept.{IsAmong, IsKeptGranule, KeepsGranules}
 use Rattle.lxr_blocks.specs.Placing.{granule_count}
 use Rattle.lxr_blocks.specs.States.{KeepsState}
@@ -23,7 +24,6 @@ use Rattle.lxr_blocks.specs.Lines.{line_behind, next_line}
 use Rattle.lxr_invariant.proofs.EntryLemmas.{changed_cases}
 use Rattle.lxr_pause_promote.specs.Copying.{Evacuates, StandsAt}
 use Rattle.lxr_pause_promote.proofs.CopyLemmas.{StandsBeside, evacuated_beside}
-use Rattle.lxr_pause_promote.proofs.EitherLemmas.{placed_here, placed_other}
 use Rattle.lxr_pause_promote.proofs.FewerLemmas.{HasFewerLines, evacuated_fewer, fewer_both, granules_kept, marked_grows, turns_fewer, was_open_run}
 use Rattle.lxr_pause_promote.proofs.PlacedLemmas.{KeepsLinesAndBlocks, keeps_fewer, still_rest}
 use Rattle.lxr_pause_promote.proofs.TableLemmas.{stands_after}

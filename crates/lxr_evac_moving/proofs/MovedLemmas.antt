@@ -1,6 +1,6 @@
 -- An object is moved: it stands where it was copied to, and all others stand where they stood.
-use Rattle.std.proofs.Common.{◌≡◌, ◌≢◌, ℕ, ◌+◌, ◌/◌, ◌%◌, ◌^◌, ◌<◌, ◌≤◌, refl, sym, ap, subst, ◌∙◌, inl, inr, ◌⊎◌, arith, Bool, true, false, List}
-use Rattle.std.specs.Prelude.{◌&&◌, not, if◌then◌else◌, Option, Some, IsTrue}
+use Rattle.std.proofs.Common.{◌≡◌, ◌≢◌, ℕ, ◌+◌, ◌/◌, ◌<◌, ◌≤◌, refl, sym, ap, subst, ◌∙◌, inl, inr, ◌⊎◌, arith, true, false, List}
+use Rattle.std.specs.Prelude.{Option, Some, IsTrue}
 use Rattle.std.proofs.lemmas.Bool.Decides.{leb_tells}
 use Rattle.lxr_layout.specs.declared.Name.{Name}
 use Rattle.lxr_layout.specs.declared.Place.{Place}
@@ -18,6 +18,7 @@ use Rattle.lxr_image.specs.Reads.{StandsWhole, granule_of}
 use Rattle.lxr_image.specs.Image.{granules_of}
 use Rattle.lxr_image.specs.ImageLaws.{placed}
 use Rattle.lxr_image.proofs.ImageLemmas.{words_cover, words_even}
+use Rattle.lxr_image.proofs.NewLemmas.{placed_here, placed_other}
 use Rattle.lxr_blocks.specs.declared.states.BlockState.TheVariants.{Chosen}
 use Rattle.lxr_blocks.specs.Kept.{IsAmong, IsKeptGranule, KeepsGranules}
 use Rattle.lxr_blocks.specs.Placing.{IsFull}
@@ -33,8 +34,8 @@ use Rattle.lxr_invariant.proofs.BlockLemmas.{still_not}
 use Rattle.lxr_invariant.proofs.PlaceLemmas.{same_object}
 use Rattle.lxr_pause_promote.specs.Either.{HoldEither, IsPlaceOf, StandsNow}
 use Rattle.lxr_pause_promote.proofs.CopyLemmas.{StandsBeside}
-use Rattle.lxr_pause_promote.proofs.EitherLemmas.{holds_placed, place_split, placed_here, placed_other, some_granules, stands_moved, whole_on}
-use Rattle.lxr_pause_promote.proofs.FewerLemmas.{Grows, state_back, states_joined}
+use Rattle.lxr_pause_promote.proofs.EitherLemmas.{holds_placed, place_split, some_granules, stands_moved, whole_on}
+use Rattle.lxr_pause_promote.proofs.FewerLemmas.{Grows, state_back, states_joined, handed_on}
 use Rattle.lxr_pause_promote.proofs.WordLemmas.{ranges_apart}
 use Rattle.lxr_evac_moving.specs.Stages.{AreMovedApart, EvacuationStage, HasBitsAndCounts, HasHeap, HasLines, HasMoved, HasPlace, IsMovingAway, IsTaken, kept_names, moved_names, with_changed_tables, with_changes}
 use Rattle.lxr_evac_moving.specs.Steps.{with_taken_over}
@@ -58,17 +59,6 @@ pub record IsMovedTo (a c : Space) (m : Moment) (st : EvacuationStage) (o : Name
   pub grows : Grows (tables_of a) (tables_of c)
   -- what had no room has none then
   pub full : (w : Shape) → IsFull a w → IsFull c w
-
--- what was handed out since, and what is handed out then, is counted once
-handed_on : (x y z : Bool) (r f : ℕ) → (IsTrue y → IsTrue x) → (IsTrue z → IsTrue y) → r ≡ (if y && not z then ((f + 1) % 2 ^ 32) else f)
-    → (if x && not y then ((r + 1) % 2 ^ 32) else r) ≡ (if x && not z then ((f + 1) % 2 ^ 32) else f)
-handed_on true true true r f more was e = e
-handed_on true true false r f more was e = e
-handed_on true false true r f more was e = absurd (let no : false ≡ true = was refl in cc)
-handed_on true false false r f more was e = ap (λ k. (k + 1) % 2 ^ 32) e
-handed_on false true z r f more was e = absurd (let no : false ≡ true = more refl in cc)
-handed_on false false true r f more was e = absurd (let no : false ≡ true = was refl in cc)
-handed_on false false false r f more was e = e
 
 module _ (a c : Space) (m : Moment) (st : EvacuationStage) (o : Name) (q : Place) (object : Object) (is : IsMovedTo a c m st o q object) where
   abbrev now' : Name → ℕ

@@ -1,5 +1,5 @@
 -- Registers hold either place of what they are to hold; one after another gets the place where that stands now.
-use Rattle.std.proofs.Common.{◌≡◌, ◌≢◌, ℕ, suc, ◌+◌, ◌<◌, ◌≤◌, refl, sym, ap, subst, ◌∙◌, inl, inr, ◌⊎◌, arith, cond, List, [], ◌∷◌, length}
+use Rattle.std.proofs.Common.{◌≡◌, ◌≢◌, ℕ, suc, ◌+◌, ◌≤◌, refl, sym, ap, subst, ◌∙◌, inl, inr, ◌⊎◌, arith, List, [], ◌∷◌, length}
 use Rattle.std.specs.Prelude.{IsTrue, None, Option, Some, slice_get, slice_set, slice_index_or}
 use Rattle.std.proofs.Math.ListN.{length-set}
 use Rattle.std.proofs.lemmas.Bool.Decides.{eqb_tells}
@@ -9,7 +9,7 @@ use Rattle.lxr_layout.specs.declared.Place.{Place}
 use Rattle.lxr_layout.specs.Registers.{AreNil, held_at, nil}
 use Rattle.lxr_image.proofs.PassedLemmas.{nil_there, passed_over}
 use Rattle.lxr_image.proofs.SpaceLemmas.{space_alike}
-use Rattle.lxr_graph.proofs.RowLemmas.{slice_get-set}
+use Rattle.lxr_graph.proofs.RowLemmas.{set_cases}
 use Rattle.lxr_image.specs.declared.space.Space.{Space}
 use Rattle.lxr_image.specs.Spaces.{tables_of}
 use Rattle.lxr_image.specs.Image.{ArePlacesOf, place_word}
@@ -27,15 +27,6 @@ use Rattle.lxr_evac_moving.proofs.StandingLemmas.{held_unreclaimed}
 
 -- ---- lists of places
 
--- the entry of a list that was written, or another one
-cases_at : {X : Type 0} (xs : List X) (i : ℕ) (v : X) (j : ℕ) (x : X) → i < length xs → slice_get (slice_set xs i v) j ≡ Some x → ((j ≡ i) × (v ≡ x)) ⊎ ((j ≢ i) × (slice_get xs j ≡ Some x))
-cases_at xs i v j x h e =
-    let s = slice_get-set xs i v j h in
-    elim (eqb_tells j i) [
-      | inl k ↦ inl (k.1, let q : Some v ≡ Some x = sym (ap (λ b. cond b (Some v) (slice_get xs j)) k.0) ∙ sym s ∙ e in cc)
-      | inr k ↦ inr (k.1, sym (ap (λ b. cond b (Some v) (slice_get xs j)) k.0) ∙ sym s ∙ e)
-    ]
-
 module _ (st : EvacuationStage) (places : List Place) (held : List (Option Name)) (is : HoldEither st.at st.now places held) (k : ℕ) (p : Place) (place_is : slice_get places k ≡ Some p) where
   pub held_there : slice_get held k ≡ Some (slice_index_or held k None)
   held_there = let low = slice_get_within places k p place_is in let many = is.as_many in slice_get-get_or held k None (omega (arith, low, many))
@@ -47,7 +38,7 @@ module _ (st : EvacuationStage) (places : List Place) (held : List (Option Name)
   pub either_set : (q : Place) → q.0 ≡ place_word st.now (slice_index_or held k None) → HoldEither st.at st.now (slice_set places k q) held
   either_set q now = record {
     as_many = length-set places k q ∙ is.as_many;
-    each = λ j x r place_at held_is. elim (cases_at places k q j x (slice_get_within places k p place_is) place_at) [
+    each = λ j x r place_at held_is. elim (set_cases places k q j x (slice_get_within places k p place_is) place_at) [
       | inl c ↦
           let same : Some (slice_index_or held k None) ≡ Some r = sym held_there ∙ ap (slice_get held) (sym c.0) ∙ held_is in
           let one : slice_index_or held k None ≡ r = cc in
@@ -59,7 +50,7 @@ module _ (st : EvacuationStage) (places : List Place) (held : List (Option Name)
   -- then one more holds that
   pub now_set : (q : Place) → q.0 ≡ place_word st.now (slice_index_or held k None) → HoldNow st places held k → HoldNow st (slice_set places k q) held (k + 1)
   now_set q now before = record {
-    first = λ j x r below place_at held_is. elim (cases_at places k q j x (slice_get_within places k p place_is) place_at) [
+    first = λ j x r below place_at held_is. elim (set_cases places k q j x (slice_get_within places k p place_is) place_at) [
       | inl c ↦
           let same : Some (slice_index_or held k None) ≡ Some r = sym held_there ∙ ap (slice_get held) (sym c.0) ∙ held_is in
           let one : slice_index_or held k None ≡ r = cc in

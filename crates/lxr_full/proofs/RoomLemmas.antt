@@ -99,7 +99,7 @@ pigeonhole t f ns (suc n) all =
 -- ---- each block is taken
 
 -- a free line is told by a test
-told_free : (t : Tables) (b i : ℕ) → IsTrue (free_in t b i) ⊎ ¬ IsTrue (free_in t b i)
+pub told_free : (t : Tables) (b i : ℕ) → IsTrue (free_in t b i) ⊎ ¬ IsTrue (free_in t b i)
 told_free t b i = elim (cases_Bool (free_in t b i)) [ inl free ↦ inl free | inr taken ↦ inr (λ free. let w : true ≡ false = sym free ∙ taken in cc) ]
 
 -- an object that has a granule of a line of a block begins in that block
@@ -111,7 +111,7 @@ whole_is_long : (shape : Shape) → FitsShape shape → line_count shape ≤ LIN
 whole_is_long shape fits = let refs = fits.0 in let values = fits.1 in omega arith
 
 -- an object of a line of a block begins in that block
-begins_in_block : (t : Tables) (blocks : ℕ) (g : Graph) (at : Name → ℕ) (ms : List Name) (b i : ℕ) → IsImage t blocks at g ms → i < LINES_IN_BLOCK → IsTakenBy g at ms (LINES_IN_BLOCK * b + i)
+pub begins_in_block : (t : Tables) (blocks : ℕ) (g : Graph) (at : Name → ℕ) (ms : List Name) (b i : ℕ) → IsImage t blocks at g ms → i < LINES_IN_BLOCK → IsTakenBy g at ms (LINES_IN_BLOCK * b + i)
     → (n : Name) × IsTrue (has ms n) × (granule_of (at n) / GRANULES_IN_BLOCK ≡ b)
 begins_in_block t blocks g at ms b i image within taken =
     let a = image.stands taken.0 taken.3 in

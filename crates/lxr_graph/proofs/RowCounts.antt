@@ -23,7 +23,7 @@ own_row (q ∷ g) zero r low high = (low, high)
 own_row (q ∷ g) (suc t) r low high = own_row g t r low high
 
 -- each row is as long as before where the row that is written is
-same_lengths : (g : Graph) (t : ℕ) (r : List Object) (u : ℕ) → length r ≡ length (row_of g t) → length (row_of (slice_set g t r) u) ≡ length (row_of g u)
+pub same_lengths : (g : Graph) (t : ℕ) (r : List Object) (u : ℕ) → length r ≡ length (row_of g t) → length (row_of (slice_set g t r) u) ≡ length (row_of g u)
 same_lengths [] t r u h = refl
 same_lengths (q ∷ g) zero r zero h = h
 same_lengths (q ∷ g) zero r (suc u) h = refl
@@ -45,11 +45,11 @@ pushed s t o rs =
     let own = own_row s.graph t (row_of s.graph t ++ o ∷ []) (omega (arith, longer)) (omega (arith, longer)) in
     record { rows = length-set _ _ _; others = λ u d. ap length (other_row s.graph t (row_of s.graph t ++ o ∷ []) u d); none_lost = own.0; one_made = own.1 }
 
-length-with_reference_at : (row : List Object) (at i : ℕ) (v : Option Name) (o : Option Object) → length (with_reference_at row at i v o) ≡ length row
+pub length-with_reference_at : (row : List Object) (at i : ℕ) (v : Option Name) (o : Option Object) → length (with_reference_at row at i v o) ≡ length row
 length-with_reference_at row at i v None = refl
 length-with_reference_at row at i v (Some o) = length-set _ _ _
 
-length-with_value_at : (row : List Object) (at i v : ℕ) (o : Option Object) → length (with_value_at row at i v o) ≡ length row
+pub length-with_value_at : (row : List Object) (at i v : ℕ) (o : Option Object) → length (with_value_at row at i v o) ≡ length row
 length-with_value_at row at i v None = refl
 length-with_value_at row at i v (Some o) = length-set _ _ _
 

@@ -4,14 +4,13 @@ use Rattle.std.specs.Prelude.{Option, Some, None, IsTrue, slice_get, slice_set, 
 use Rattle.std.proofs.Math.ListN.{length-set}
 use Rattle.std.proofs.lemmas.List.{map-set}
 use Rattle.std.proofs.lemmas.Option.{slice_get_within}
-use Rattle.std.proofs.lemmas.Bool.Decides.{eqb_tells}
 use Rattle.lxr_layout.specs.declared.Name.{Name}
 use Rattle.lxr_layout.specs.declared.Place.{Place}
 use Rattle.lxr_layout.specs.Objects.{word_count}
 use Rattle.lxr_layout.specs.Places.{first_word}
 use Rattle.lxr_graph.specs.State.{Object, Graph, object_at, shape_of, with_reference, with_value}
 use Rattle.lxr_graph.specs.Names.{has, same_name}
-use Rattle.lxr_graph.proofs.RowLemmas.{object_at-with_reference, object_at-with_value, slice_get-set}
+use Rattle.lxr_graph.proofs.RowLemmas.{object_at-with_reference, object_at-with_value, set_cases}
 use Rattle.lxr_graph.proofs.NameSets.{same_names}
 use Rattle.lxr_image.specs.Tables.{Tables, changed}
 use Rattle.lxr_image.specs.Reads.{StandsWhole, granule_of}
@@ -76,15 +75,6 @@ outside_keeps_image t blocks at g ms k v is out = record {
 
 -- ---- one object
 
--- the entry of a list that was written, or another one
-cases_at : {X : Type 0} (xs : List X) (i : ℕ) (v : X) (j : ℕ) (x : X) → i < length xs → slice_get (slice_set xs i v) j ≡ Some x → ((j ≡ i) × (v ≡ x)) ⊎ ((j ≢ i) × (slice_get xs j ≡ Some x))
-cases_at xs i v j x h e =
-    let s = slice_get-set xs i v j h in
-    elim (eqb_tells j i) [
-      | inl k ↦ inl (k.1, let q : Some v ≡ Some x = sym (ap (λ b. cond b (Some v) (slice_get xs j)) k.0) ∙ sym s ∙ e in cc)
-      | inr k ↦ inr (k.1, sym (ap (λ b. cond b (Some v) (slice_get xs j)) k.0) ∙ sym s ∙ e)
-    ]
-
 -- the object with one reference changed stands
 stored_stands : (t : Tables) (blocks : ℕ) (at : Name → ℕ) (n : Name) (o : Object) (i : ℕ) (v : Option Name) → i < length o.refs → Stands t blocks at n o
     → Stands (with_heap t (first_word (at n) + 1 + i) (place_word at v)) blocks at n (record o { refs = slice_set o.refs i v })
@@ -100,7 +90,7 @@ stored_stands t blocks at n o i v h is =
         in_heap = is.whole.in_heap;
         in_block = is.whole.in_block;
       });
-      refs = λ j x e. elim (cases_at o.refs i v j x h e) [
+      refs = λ j x e. elim (set_cases o.refs i v j x h e) [
         | inl q ↦ just_at t.heap k (place_word at v) (first_word (at n) + 1 + j) (let z = q.0 in omega arith) ∙ ap (place_word at) q.1
         | inr q ↦ not_at t.heap k (place_word at v) (first_word (at n) + 1 + j) (λ w. q.0 (omega arith)) ∙ is.refs j x q.1
       ];
@@ -126,7 +116,7 @@ put_stands t blocks at n o i v h is =
         in_block = is.whole.in_block;
       });
       refs = λ j x e. let within = slice_get_within o.refs j x e in not_at t.heap k v (first_word (at n) + 1 + j) (λ w. omega arith) ∙ is.refs j x e;
-      values = λ j x e. elim (cases_at o.values i v j x h e) [
+      values = λ j x e. elim (set_cases o.values i v j x h e) [
         | inl q ↦ just_at t.heap k v (first_word (at n) + 1 + length o.refs + j) (let z = q.0 in omega arith) ∙ q.1
         | inr q ↦ not_at t.heap k v (first_word (at n) + 1 + length o.refs + j) (λ w. q.0 (omega arith)) ∙ is.values j x q.1
       ];
@@ -183,7 +173,7 @@ member_written t blocks at g h ms n o b i v is member has_o which size within st
     }
 
 -- the member that is there stands
-member_stands : (t : Tables) (blocks : ℕ) (at : Name → ℕ) (g : Graph) (ms : List Name) (n : Name) (o : Object) → IsImage t blocks at g ms → IsTrue (has ms n) → object_at g n ≡ Some o → Stands t blocks at n o
+pub member_stands : (t : Tables) (blocks : ℕ) (at : Name → ℕ) (g : Graph) (ms : List Name) (n : Name) (o : Object) → IsImage t blocks at g ms → IsTrue (has ms n) → object_at g n ≡ Some o → Stands t blocks at n o
 member_stands t blocks at g ms n o is member has_o =
     let ns = is.stands n member in
     let same : Some ns.0 ≡ Some o = sym ns.1 ∙ has_o in

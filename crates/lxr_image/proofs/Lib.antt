@@ -11,3 +11,6 @@ pub mod NewLemmas
 pub mod ReadLemmas
 pub mod OpeningLemmas
 pub mod RegisterLemmas
+pub mod HeightsLemmas
+pub mod SettledLemmas
+pub mod WriteLemmas

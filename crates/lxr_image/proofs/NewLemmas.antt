@@ -30,10 +30,10 @@ shape_fresh s = λ j. record { refs = length-replicate {A = Option Name} s.refs 
 
 -- ---- places
 
-placed_here : (at : Name → ℕ) (n : Name) (p : ℕ) → placed at n p n ≡ p
+pub placed_here : (at : Name → ℕ) (n : Name) (p : ℕ) → placed at n p n ≡ p
 placed_here at n p = ap (λ b. cond b p (at n)) (same_itself n)
 
-placed_other : (at : Name → ℕ) (n : Name) (p : ℕ) (m : Name) → same_name m n ≡ false → placed at n p m ≡ at m
+pub placed_other : (at : Name → ℕ) (n : Name) (p : ℕ) (m : Name) → same_name m n ≡ false → placed at n p m ≡ at m
 placed_other at n p m differ = ap (λ b. cond b p (at m)) differ
 
 -- what a member's reference holds stays where it is

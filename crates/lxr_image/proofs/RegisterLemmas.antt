@@ -13,6 +13,7 @@ use Rattle.lxr_layout.specs.declared.TheConstants.{REGISTERS}
 use Rattle.lxr_layout.specs.declared.Place.{Place}
 use Rattle.lxr_layout.specs.Registers.{AreNil, held_at, nil}
 use Rattle.lxr_graph.specs.State.{opening_registers, opening_row}
+use Rattle.lxr_graph.proofs.OpeningLemmas.{length-opening}
 use Rattle.lxr_image.specs.declared.registers.RegisterFile.TheInside.{Inside}
 use Rattle.lxr_image.specs.Opened.{opening_place}
 use Rattle.lxr_image.specs.Registers.{AreInUse, holding, row_in, with_row}
@@ -169,11 +170,6 @@ nil_held (suc n) (suc k) = nil_held n k
 nil_in_row : (k : ℕ) → 0 < k → held_at (map opening_place opening_row) k ≡ nil
 nil_in_row zero some = absurd (omega arith)
 nil_in_row (suc k) some = nil_held (REGISTERS - 1) k
-
--- how many there are
-pub length-opening : (threads : ℕ) → length (opening_registers threads) ≡ REGISTERS * threads
-length-opening zero = refl
-length-opening (suc t) = let e = length-append (opening_registers t) opening_row in let k = length-opening t in omega (arith, e, k)
 
 -- all but the first register of each thread are nil
 nil_opening : (threads k : ℕ) → 0 < k % REGISTERS → held_at (map opening_place (opening_registers threads)) k ≡ nil

@@ -6,3 +6,5 @@ pub mod Registers
 pub mod Image
 pub mod ImageLaws
 pub mod Parts
+pub mod Settled
+pub mod Heights

@@ -7,13 +7,17 @@
 //! an image of the graph.
 #![tactic(auto)]
 
+mod heights;
 mod laws;
 mod objects;
 mod open;
 mod registers;
 mod rest;
+mod settled;
+mod settling;
 mod space;
 mod tables;
+mod words;
 
 pub use laws::{
     entries_are_within, image_is_read, image_stands_whole, new_keeps_image, none_starts_past,
@@ -22,4 +26,6 @@ pub use laws::{
 pub use open::{NO_TALLY, WORLD_STATE};
 pub use registers::RegisterFile;
 pub use rest::Rest;
+pub use settled::Settled;
 pub use space::{Entries, Places, Space, Tally};
+pub use words::HeapWords;

@@ -1,7 +1,7 @@
 //! Empty spaces, and how a space is opened.
 //!
-//! A space takes all its memory when it is opened: the room of its words and of its lists, of which nothing is written.
-//! Then the world is placed and the blocks are listed, a word each.
+//! A space takes all its memory when it is opened: the room of its words and of its lists, of which nothing is written, and what is known of
+//! lines, 18 bytes a block. Then the world is placed and the blocks are listed, a word each.
 ghost use Rattle.std.specs.Prelude.{◌≡◌, ◌+◌, ◌*◌, ◌^◌, ◌≤◌, ◌++◌, ◌↔◌, [], IfOk, IsTrue, OnErr, OnOk, length, map};
 ghost use Rattle.lxr_image.specs.Image.{IsOpeningImage};
 ghost use Rattle.lxr_image.specs.Opened.{HasReportRoom, IsBlank, IsNew, IsOpened, cleared_tables, no_tally, with_blocks, with_world};
@@ -10,14 +10,14 @@ ghost use Rattle.lxr_image.specs.Spaces.{IsSpace, Turns, tables_of};
 ghost use Rattle.lxr_layout.specs.declared.TheConstants.{MOST_GRANULES};
 ghost use Rattle.lxr_layout.specs.Spaces.{AreLimits, all_regions, region_begin};
 
-use crate::{RegisterFile, Space, Tally};
+use crate::{HeapWords, RegisterFile, Space, Tally};
 use lxr_base::{Chronicle, Listed};
 use lxr_graph::{Kind, Report};
 use lxr_layout::{
     FREE_BLOCK_COUNT, GRANULES_IN_BLOCK, GRANULES_IN_LINE, LINES_IN_BLOCK, Limits, Name, RUN_COUNT,
-    Run, STUCK, Shape, WORLD_LINES, WORLD_REFS, pack, regions, run_word,
+    Run, STUCK, Shape, WORLD_LINES, WORLD_REFS, pack, run_word,
 };
-use lxr_tables::{PlainWords, Words};
+use lxr_tables::Words;
 use std::alloc::{AllocError, Global};
 
 /// The state of the block in which the world lies.
@@ -64,7 +64,7 @@ impl Space {
         ensures rest { (result.rest_next ≡ 0) × (result.rest_end ≡ 0) }
     {
         Space {
-            words: PlainWords::empty(alloc),
+            words: HeapWords::empty(alloc),
             limits: Limits {
                 blocks: 0,
                 threads: 0,
@@ -133,7 +133,7 @@ impl Space {
     {
         let granules = (GRANULES_IN_BLOCK * limits.blocks) as usize;
         Ok(Space {
-            words: PlainWords::new(alloc, regions(limits).total as usize)?,
+            words: HeapWords::new(alloc, limits)?,
             limits,
             registers: RegisterFile::open(alloc, limits.threads, limits.registers)?,
             deferred: RegisterFile::open(alloc, limits.threads, limits.registers)?,

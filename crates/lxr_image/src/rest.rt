@@ -1,9 +1,12 @@
 //! What a space has beside its words.
-ghost use Rattle.std.specs.Prelude.{◌≡◌};
+ghost use Rattle.std.specs.Prelude.{◌≡◌, ℕ, List};
 ghost use Rattle.lxr_image.specs.Parts.{whole};
+ghost use Rattle.lxr_image.specs.Settled.{KeepsLines, KnowsWords};
+ghost use Rattle.lxr_image.specs.Tables.{tables_in};
 
-use crate::RegisterFile;
+use crate::settled::Settled;
 use crate::space::{Entries, Places, Space, Tally};
+use crate::{HeapWords, RegisterFile};
 use lxr_graph::Report;
 use lxr_layout::Limits;
 use lxr_tables::PlainWords;
@@ -22,13 +25,27 @@ pub struct Rest {
     pub trace: Option<u32>,
     pub rest_next: u32,
     pub rest_end: u32,
+    /// What is known of lines beside the words.
+    pub settled: Settled,
+}
+
+impl Rest {
+    /// Helpers may have lowered counts since the words were taken out: what is known of lines is so of the words that the epoch has left, too.
+    pub fn end_epoch(&mut self)
+        ensures rest { (words : List ℕ) → whole words self.new ≡ whole words self.old }
+        ensures knows { (before after : List ℕ) → KnowsWords self.old.settled before → KeepsLines (tables_in self.old.limits before) (tables_in self.old.limits after) → KnowsWords self.new.settled after }
+    {
+        self.settled.distrust(self.limits.blocks);
+    }
 }
 
 impl Space {
     /// Its words, and what it has beside them.
     pub fn into_parts(self) -> (PlainWords, Rest)
-        ensures { whole result.0 result.1 ≡ self }
+        ensures whole { whole result.0 result.1 ≡ self }
+        ensures knows { KnowsWords result.1.settled result.0 }
     {
+        let (words, settled) = self.words.into_parts();
         let rest = Rest {
             limits: self.limits,
             registers: self.registers,
@@ -41,16 +58,18 @@ impl Space {
             trace: self.trace,
             rest_next: self.rest_next,
             rest_end: self.rest_end,
+            settled,
         };
-        (self.words, rest)
+        (words, rest)
     }
 
-    /// The space of words, and of what it has beside them.
+    /// The space of words, and of what it has beside them, where what is known of lines is so of these.
     pub fn from_parts(words: PlainWords, rest: Rest) -> Space
+        requires knows { KnowsWords rest.settled words }
         ensures { result ≡ whole words rest }
     {
         Space {
-            words,
+            words: HeapWords::from_parts(words, rest.settled),
             limits: rest.limits,
             registers: rest.registers,
             deferred: rest.deferred,

@@ -1,9 +1,8 @@
 //! The space and its numbers.
-use crate::RegisterFile;
+use crate::{HeapWords, RegisterFile};
 use lxr_base::Listed;
 use lxr_graph::Report;
 use lxr_layout::{Limits, LogEntry, Place};
-use lxr_tables::PlainWords;
 
 /// A list of places.
 pub type Places = Listed<Place>;
@@ -32,7 +31,7 @@ pub struct Tally {
 /// The words of a heap with its tables, and what stands beside them. All its memory is taken when it is opened.
 #[derive(Drop)]
 pub struct Space {
-    pub words: PlainWords,
+    pub words: HeapWords,
     pub limits: Limits,
     /// What each thread's 256 registers hold, thread 1 first.
     pub registers: RegisterFile,

@@ -5,19 +5,17 @@
 //! heap, from 0.
 ghost use Rattle.std.specs.Prelude.{◌≡◌, ◌≢◌, ℕ, ◌+◌, ◌*◌, ◌/◌, ◌%◌, ◌^◌, ◌<◌, ◌≤◌, ◌↔◌, ◌==◌, IsBitSet, IsTrue, false, if◌then◌else◌, slice_index, true};
 ghost use Rattle.std.specs.Int.{bit_at};
-ghost use Rattle.lxr_layout.specs.declared.TheConstants.{GRANULES_IN_BLOCK, GRANULES_IN_LINE, LINES_IN_BLOCK, WORDS_IN_BLOCK};
+ghost use Rattle.lxr_layout.specs.declared.TheConstants.{GRANULES_IN_BLOCK, GRANULES_IN_LINE, LINES_IN_BLOCK, STUCK, WORDS_IN_BLOCK};
 ghost use Rattle.lxr_image.specs.Reads.{is_tracing};
+ghost use Rattle.lxr_image.specs.Settled.{block_of_bit};
 ghost use Rattle.lxr_image.specs.Spaces.{IsSpace, Turns, bit_region, bit_table, tables_of, with_bit, with_bit_word, with_word, word_region, word_table};
 ghost use Rattle.lxr_image.specs.Tables.{changed};
 ghost use Rattle.lxr_layout.specs.Spaces.{AreLimits, counts_region, region_begin, region_sizes, reuse_region};
 ghost use Rattle.lxr_tables.specs.Counts.{lowered_count, lowered_of, raised_count};
 
 use crate::Space;
-use lxr_layout::{Limits, STUCK, TRACING_WORD, regions};
-use lxr_tables::{
-    COUNTS_IN_WORD, Lowered, Raised, Words, bit, clear_bit, four, is_uncounted, lower_four,
-    raise_four, set_bit, set_four, uncounted_lines,
-};
+use lxr_layout::{GRANULES_IN_BLOCK, LINES_IN_BLOCK, Limits, TRACING_WORD, regions};
+use lxr_tables::{Lowered, Raised, Words, bit, four, is_uncounted, uncounted_lines};
 
 /// A table of bits.
 #[derive(Clone, Copy)]
@@ -31,9 +29,21 @@ pub(crate) enum BitTable {
 }
 
 impl BitTable {
+    /// The block in which an entry tells of lines. No entry of the other tables does.
+    #[inline(always)]
+    pub(crate) fn block_of(self, index: usize) -> usize
+        ensures { result ≡ block_of_bit self index }
+    {
+        match self {
+            BitTable::Starts => index / GRANULES_IN_BLOCK as usize,
+            BitTable::Outs => index / LINES_IN_BLOCK as usize,
+            BitTable::Marks | BitTable::Grays | BitTable::Dones | BitTable::Unlogged => 0,
+        }
+    }
+
     /// The first word of the table's region.
     #[inline(always)]
-    fn begin(self, limits: Limits) -> usize
+    pub(crate) fn begin(self, limits: Limits) -> usize
         requires { AreLimits limits }
         ensures { result ≡ region_begin limits (bit_region self) }
     {
@@ -65,7 +75,7 @@ pub(crate) enum WordTable {
 impl WordTable {
     /// The first word of the table's region.
     #[inline(always)]
-    fn begin(self, limits: Limits) -> usize
+    pub(crate) fn begin(self, limits: Limits) -> usize
         requires { AreLimits limits }
         ensures { result ≡ region_begin limits (word_region self) }
     {
@@ -110,8 +120,7 @@ impl Space {
         requires at { at < slice_index (region_sizes self.old.limits) (bit_region table) }
         ensures { Turns self.old self.new (with_bit_word (tables_of self.old) table at value) }
     {
-        let base = table.begin(self.limits);
-        self.words.set(base + at as usize, value);
+        self.words.put_bit_word(self.limits, table, at, value);
     }
 
     #[inline(always)]
@@ -120,8 +129,7 @@ impl Space {
         requires index { index < 64 * slice_index (region_sizes self.old.limits) (bit_region table) }
         ensures { Turns self.old self.new (with_bit (tables_of self.old) table index true) }
     {
-        let base = table.begin(self.limits);
-        set_bit(&mut self.words, base, index);
+        self.words.set_bit(self.limits, table, index);
     }
 
     #[inline(always)]
@@ -130,8 +138,7 @@ impl Space {
         requires index { index < 64 * slice_index (region_sizes self.old.limits) (bit_region table) }
         ensures { Turns self.old self.new (with_bit (tables_of self.old) table index false) }
     {
-        let base = table.begin(self.limits);
-        clear_bit(&mut self.words, base, index);
+        self.words.clear_bit(self.limits, table, index);
     }
 
     #[inline(always)]
@@ -149,8 +156,7 @@ impl Space {
         requires index { index < slice_index (region_sizes self.old.limits) (word_region table) }
         ensures { Turns self.old self.new (with_word (tables_of self.old) table index value) }
     {
-        let base = table.begin(self.limits);
-        self.words.set(base + index, value);
+        self.words.put_word(self.limits, table, index, value);
     }
 
     /// Whether an object that was promoted and isn't reclaimed begins at the granule.
@@ -195,17 +201,6 @@ impl Space {
         self.bit_word_in(BitTable::Starts, at)
     }
 
-    /// Writes at which of 64 granules in a row an object begins.
-    #[inline(always)]
-    pub fn put_start_word(&mut self, at: u32, value: u64)
-        requires space { IsSpace self.old }
-        requires at { at < 32 * self.old.limits.blocks }
-        ensures { let t = tables_of self.old in
-            Turns self.old self.new (record t { starts = λ n. if n / 64 == at then bit_at value (n % 64) == 1 else t.starts n }) }
-    {
-        self.put_bit_word_in(BitTable::Starts, at, value);
-    }
-
     /// Whether the tracer has marked the object at the granule.
     #[inline(always)]
     pub fn has_mark(&self, granule: u32) -> bool
@@ -246,17 +241,6 @@ impl Space {
         ensures { (i : ℕ) → i < 64 → (tables_of self.now).marks (64 * at + i) ≡ (bit_at result i == 1) }
     {
         self.bit_word_in(BitTable::Marks, at)
-    }
-
-    /// Writes which of 64 granules in a row have marked objects.
-    #[inline(always)]
-    pub fn put_mark_word(&mut self, at: u32, value: u64)
-        requires space { IsSpace self.old }
-        requires at { at < 32 * self.old.limits.blocks }
-        ensures { let t = tables_of self.old in
-            Turns self.old self.new (record t { marks = λ n. if n / 64 == at then bit_at value (n % 64) == 1 else t.marks n }) }
-    {
-        self.put_bit_word_in(BitTable::Marks, at, value);
     }
 
     /// Takes the marks of the objects at 64 granules in a row away.
@@ -312,17 +296,6 @@ impl Space {
         self.bit_word_in(BitTable::Grays, at)
     }
 
-    /// Writes which of 64 granules in a row have objects that the tracer has found.
-    #[inline(always)]
-    pub fn put_gray_word(&mut self, at: u32, value: u64)
-        requires space { IsSpace self.old }
-        requires at { at < 32 * self.old.limits.blocks }
-        ensures { let t = tables_of self.old in
-            Turns self.old self.new (record t { grays = λ n. if n / 64 == at then bit_at value (n % 64) == 1 else t.grays n }) }
-    {
-        self.put_bit_word_in(BitTable::Grays, at, value);
-    }
-
     /// Forgets that the tracer has found the objects at 64 granules in a row.
     #[inline(always)]
     pub fn clear_gray_word(&mut self, at: u32)
@@ -342,16 +315,6 @@ impl Space {
         ensures { result ≡ (tables_of self.now).dones granule }
     {
         self.bit_in(BitTable::Dones, granule as usize)
-    }
-
-    /// Which of 64 granules in a row have dead objects that are claimed for handling.
-    #[inline(always)]
-    pub fn done_word(&self, at: u32) -> u64
-        requires space { IsSpace self.now }
-        requires at { at < 32 * self.now.limits.blocks }
-        ensures { (i : ℕ) → i < 64 → (tables_of self.now).dones (64 * at + i) ≡ (bit_at result i == 1) }
-    {
-        self.bit_word_in(BitTable::Dones, at)
     }
 
     /// Claims the dead object at the granule for handling.
@@ -374,17 +337,6 @@ impl Space {
             Turns self.old self.new (record t { dones = changed t.dones granule false }) }
     {
         self.clear_bit_in(BitTable::Dones, granule as usize);
-    }
-
-    /// Writes which of 64 granules in a row have dead objects that are claimed for handling.
-    #[inline(always)]
-    pub fn put_done_word(&mut self, at: u32, value: u64)
-        requires space { IsSpace self.old }
-        requires at { at < 32 * self.old.limits.blocks }
-        ensures { let t = tables_of self.old in
-            Turns self.old self.new (record t { dones = λ n. if n / 64 == at then bit_at value (n % 64) == 1 else t.dones n }) }
-    {
-        self.put_bit_word_in(BitTable::Dones, at, value);
     }
 
     /// Whether the reference at the heap word hasn't been written since the last pause.
@@ -683,8 +635,7 @@ impl Space {
         ensures { let t = tables_of self.old in
             Turns self.old self.new (record t { counts = changed t.counts granule count }) }
     {
-        let base = self.counts_begin();
-        set_four(&mut self.words, base, granule as usize, count);
+        self.words.set_count(self.limits, granule, count);
     }
 
     /// Raises the reference count at the granule by one, but not beyond `STUCK`.
@@ -697,8 +648,7 @@ impl Space {
         ensures tables { let t = tables_of self.old in
             Turns self.old self.new (record t { counts = changed t.counts granule result.now }) }
     {
-        let base = self.counts_begin();
-        raise_four(&mut self.words, base, granule as usize)
+        self.words.raise_count(self.limits, granule)
     }
 
     /// Lowers the reference count at the granule, which isn't 0, by one; a stuck count stays.
@@ -711,8 +661,7 @@ impl Space {
         ensures tables { let t = tables_of self.old in
             Turns self.old self.new (record t { counts = changed t.counts granule (lowered_count (t.counts granule)) }) }
     {
-        let base = self.counts_begin();
-        lower_four(&mut self.words, base, granule as usize)
+        self.words.lower_count(self.limits, granule)
     }
 
     /// The lines of the block that have no count but 0: bit i of the answer is set exactly where all counts of line i
@@ -770,13 +719,12 @@ impl Space {
         ensures { let t = tables_of self.old in
             Turns self.old self.new (record t { reuse = changed t.reuse line ((t.reuse line + 1) % 2 ^ 32) }) }
     {
-        let at = self.reuse_word(line);
         let old = self.reuse(line);
         let shift = 32 * (line % 2);
-        let word = self.words.get(at);
+        let word = self.words.get(self.reuse_word(line));
         let cleared = word - (u64::from(old) << shift);
-        self.words
-            .set(at, cleared + (u64::from(old.wrapping_add(1)) << shift));
+        let raised = cleared + (u64::from(old.wrapping_add(1)) << shift);
+        self.words.put_reuse(self.limits, line / 2, raised);
     }
 
     /// The word of a line's reuse counter.

@@ -14,7 +14,7 @@ use Rattle.lxr_image.proofs.OutLemmas.{told_by_bit}
 use Rattle.lxr_blocks.specs.declared.states.BlockState.TheVariants.{Free}
 use Rattle.lxr_blocks.specs.States.{AreFreeBlocks, state_in}
 use Rattle.lxr_image_search.specs.declared.Wanted.{Wanted}
-use Rattle.lxr_image_search.specs.declared.Wanted.TheVariants.{Handled, Object, ToScan, Unmarked}
+use Rattle.lxr_image_search.specs.declared.Wanted.TheVariants.{Object, ToScan, Unmarked}
 use Rattle.lxr_image_search.specs.Search.{AvoidsFree, IsNextWanted, NoneWanted, is_wanted}
 
 -- ---- what one word tells
@@ -109,4 +109,3 @@ pub avoids_by_starts : (t : Tables) (wanted : Wanted) → ((k : ℕ) → IsTrue 
 avoids_by_starts t Object starts grays dones k is = starts k is
 avoids_by_starts t Unmarked starts grays dones k is = starts k (and_parts (t.starts k) (not (t.marks k)) is).0
 avoids_by_starts t ToScan starts grays dones k is = starts k (grays k (and_parts (t.grays k) (not (t.marks k)) is).0)
-avoids_by_starts t Handled starts grays dones k is = starts k (dones k is)

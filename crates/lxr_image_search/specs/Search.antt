@@ -5,14 +5,13 @@ use Rattle.lxr_image.specs.Tables.{Tables}
 use Rattle.lxr_blocks.specs.declared.states.BlockState.TheVariants.{Free}
 use Rattle.lxr_blocks.specs.States.{state_in}
 use Rattle.lxr_image_search.specs.declared.Wanted.{Wanted}
-use Rattle.lxr_image_search.specs.declared.Wanted.TheVariants.{Handled, Object, ToScan, Unmarked}
+use Rattle.lxr_image_search.specs.declared.Wanted.TheVariants.{Object, ToScan, Unmarked}
 
 -- a granule has it
 abbrev pub is_wanted : Tables → Wanted → ℕ → Bool
 is_wanted t Object k = t.starts k
 is_wanted t Unmarked k = t.starts k && not (t.marks k)
 is_wanted t ToScan k = t.grays k && not (t.marks k)
-is_wanted t Handled k = t.dones k
 
 -- no granule of a block whose state is Free has it
 abbrev pub AvoidsFree : Tables → Wanted → Type 0

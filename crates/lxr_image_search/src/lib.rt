@@ -19,8 +19,6 @@ pub enum Wanted {
     Unmarked,
     /// A gray object without a mark.
     ToScan,
-    /// An object that a decrementer has handled.
-    Handled,
 }
 
 /// Which of 64 granules in a row have a wanted object: bit i of the answer is set exactly where granule i of them has.
@@ -34,7 +32,6 @@ fn wanted_word(space: &Space, wanted: Wanted, at: u32) -> u64
         Wanted::Object => space.start_word(at),
         Wanted::Unmarked => space.start_word(at) & !space.mark_word(at),
         Wanted::ToScan => space.gray_word(at) & !space.mark_word(at),
-        Wanted::Handled => space.done_word(at),
     }
 }
 
@@ -48,7 +45,6 @@ fn wanted_hint(space: &Space, wanted: Wanted, at: u32) -> u64
     match wanted {
         Wanted::Object | Wanted::Unmarked => space.start_word(at),
         Wanted::ToScan => space.gray_word(at),
-        Wanted::Handled => space.done_word(at),
     }
 }
 

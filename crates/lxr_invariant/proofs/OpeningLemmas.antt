@@ -2,7 +2,7 @@
 use Rattle.std.proofs.Common.{◌≡◌, ◌≢◌, ℕ, zero, suc, ◌+◌, ◌-◌, ◌*◌, ◌%◌, ◌<◌, ◌≤◌, refl, sym, ap, subst, ◌∙◌, inl, inr, ◌⊎◌, arith, cond, Bool, true, false, List, [], ◌∷◌, length, map, nat_eq, nat_le}
 use Rattle.std.specs.Prelude.{Some, None, IsTrue, ◌&&◌}
 use Rattle.std.specs.List.Sorted.{IsPermutation}
-use Rattle.std.proofs.lemmas.List.{length-append, length-map}
+use Rattle.std.proofs.lemmas.List.{length-map}
 use Rattle.std.proofs.lemmas.List.Sorted.{IsPermutation-refl}
 use Rattle.std.proofs.lemmas.Bool.Decides.{eqb_tells}
 use Rattle.lxr_layout.specs.declared.limits.Limits.{Limits}
@@ -10,7 +10,7 @@ use Rattle.lxr_layout.specs.declared.Name.{Name}
 use Rattle.lxr_layout.specs.declared.Place.{Place}
 use Rattle.lxr_layout.specs.declared.TheConstants.{GRANULES_IN_LINE, REGISTERS, STUCK}
 use Rattle.lxr_graph.specs.Names.{has}
-use Rattle.lxr_graph.specs.State.{Graph, Object, object_at, opening, opening_registers, opening_row, refs_of, world, world_name}
+use Rattle.lxr_graph.specs.State.{Graph, Object, object_at, opening, opening_registers, refs_of, world, world_name}
 use Rattle.lxr_graph.proofs.NameSets.{has_one, not_both}
 use Rattle.lxr_image.specs.declared.space.Space.{Space}
 use Rattle.lxr_image.specs.declared.open.TheConstants.{WORLD_STATE}
@@ -21,7 +21,7 @@ use Rattle.lxr_image.specs.Opened.{IsOpened, opened_tables, opening_place}
 use Rattle.lxr_blocks.specs.declared.states.BlockState.TheVariants.{Free, World}
 use Rattle.lxr_blocks.specs.States.{state_in, state_of}
 use Rattle.lxr_model.specs.Moments.{Moment, opening_moment}
-use Rattle.lxr_image.proofs.RegisterLemmas.{length-opening}
+use Rattle.lxr_graph.proofs.OpeningLemmas.{length-opening}
 use Rattle.lxr_model_counting.proofs.FollowingLemmas.{opening_follows}
 use Rattle.lxr_invariant.specs.Standing.{HasBits}
 use Rattle.lxr_invariant.specs.Counting.{HasCounts, HasDecrements, IsUndecremented}

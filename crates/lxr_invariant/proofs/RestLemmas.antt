@@ -39,7 +39,7 @@ entries_alike m k at to (w ∷ ws) each =
     ∙ ap (λ z. entry_of m at w ∷ z) (entries_alike m k at to ws (λ n i h. each n i (later_field w ws (n, i) h)))
 
 -- what a list has at an index keeps its place where all that the list has do
-same_word : (at to : Name → ℕ) (rs : List (Option Name)) (i : ℕ) → ((q : Name) → slice_get rs i ≡ Some (Some q) → to q ≡ at q) → place_word to (get_or rs i None) ≡ place_word at (get_or rs i None)
+pub same_word : (at to : Name → ℕ) (rs : List (Option Name)) (i : ℕ) → ((q : Name) → slice_get rs i ≡ Some (Some q) → to q ≡ at q) → place_word to (get_or rs i None) ≡ place_word at (get_or rs i None)
 same_word at to [] i each = refl
 same_word at to (None ∷ rs) zero each = refl
 same_word at to (Some q ∷ rs) zero each = each q refl

@@ -8,6 +8,7 @@ use Rattle.lxr_graph.specs.declared.report.Count.{Count}
 use Rattle.lxr_graph.specs.Names.{same_name, has, without, union}
 use Rattle.lxr_graph.specs.History.{PauseReport}
 use Rattle.lxr_graph.proofs.NameSets.{same_itself, not_both, union_cases, union_left, union_right, without_parts, in_without}
+use Rattle.lxr_graph.proofs.RowLemmas.{slice_get-mapped}
 use Rattle.lxr_model.specs.Dead.{Dead, dead}
 use Rattle.lxr_model.specs.References.{references}
 use Rattle.lxr_model.specs.Moments.{Moment, moment, unreclaimed_after, stuck_after}
@@ -124,12 +125,7 @@ no_zero terms h report legal =
 
 -- ---- counts
 
-entry : {X Y : Type 0} (f : X → Y) (xs : List X) (i : ℕ) (y : Y) → slice_get (map f xs) i ≡ Some y → (x : X) × (slice_get xs i ≡ Some x) × (y ≡ f x)
-entry f [] i y e = absurd (cc)
-entry f (x ∷ xs) zero y e = (x, refl, cc)
-entry f (x ∷ xs) (suc i) y e = entry f xs i y e
-
-at_index : (ns : List Name) (i : ℕ) (n : Name) → slice_get ns i ≡ Some n → IsTrue (has ns n)
+pub at_index : (ns : List Name) (i : ℕ) (n : Name) → slice_get ns i ≡ Some n → IsTrue (has ns n)
 at_index [] i n e = absurd (cc)
 at_index (m ∷ ns) zero n e = let k : n ≡ m = cc in or_left (same_name n m) (has ns n) (ap (same_name n) (sym k) ∙ same_itself n)
 at_index (m ∷ ns) (suc i) n e = or_right (same_name n m) (has ns n) (at_index ns i n e)
@@ -161,7 +157,7 @@ exact_at m report parts is drains =
     let are : AreCounts m report true = are_counts m report (is_draining report.kind) drains is.counts in (
       ap (map (λ (c : Count). c.name)) are ∙ names_of_entries (λ n. cond (has (union report.stuck m.stuck) n) None (Some (references m.state us n))) us,
       λ i c e.
-          let at = entry (count_entry m.state us (union report.stuck m.stuck)) us i c (ap (λ cs. slice_get cs i) (sym are) ∙ e) in
+          let at = slice_get-mapped (count_entry m.state us (union report.stuck m.stuck)) us i c (ap (λ cs. slice_get cs i) (sym are) ∙ e) in
           subst (IsExactCount m.state us (stuck_after m report)) (sym at.2) (exact_entry m report us at.0 (at_index us i at.0 at.1)),
     )
 

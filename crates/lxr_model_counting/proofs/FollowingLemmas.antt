@@ -1,9 +1,8 @@
 -- The state follows the last pause: at the opening, after each call, and anew after a pause. What is reachable is
 -- live, since registers hold live names and live names refer to live names.
-use Rattle.std.proofs.Common.{◌≡◌, ℕ, zero, suc, ◌+◌, ◌-◌, ◌*◌, ◌<◌, ◌≤◌, refl, sym, ap, subst, ◌∙◌, inl, inr, ◌⊎◌, arith, List, [], IsTrue, ◌↔◌, length}
+use Rattle.std.proofs.Common.{◌≡◌, ℕ, ◌+◌, ◌-◌, ◌*◌, ◌<◌, ◌≤◌, refl, sym, ap, subst, ◌∙◌, inl, inr, ◌⊎◌, arith, List, [], IsTrue, ◌↔◌, length}
 use Rattle.std.specs.Prelude.{false, Option, Some, None, is_some, slice_get}
 use Rattle.std.proofs.lemmas.Bool.{false_from_ne_true}
-use Rattle.std.proofs.lemmas.List.{length-append}
 use Rattle.lxr_layout.specs.declared.TheConstants.{REGISTERS}
 use Rattle.lxr_layout.specs.declared.Name.{Name}
 use Rattle.lxr_graph.specs.declared.Op.{Op}
@@ -11,8 +10,9 @@ use Rattle.lxr_graph.specs.declared.Op.TheVariants as op
 use Rattle.lxr_graph.specs.declared.Reply.{Reply}
 use Rattle.lxr_graph.specs.declared.Reply.TheVariants as reply
 use Rattle.lxr_graph.specs.Names.{has, union, AreInOrder}
-use Rattle.lxr_graph.specs.State.{Graph, Object, HasObject, object_at, refs_of, world_name, opening, opening_row, opening_registers}
+use Rattle.lxr_graph.specs.State.{Graph, Object, HasObject, object_at, refs_of, world_name, opening}
 use Rattle.lxr_graph.specs.Step.{step}
+use Rattle.lxr_graph.proofs.OpeningLemmas.{length-opening}
 use Rattle.lxr_graph.proofs.NameSets.{not_both, has_one, insert_new, in_order-none, in_order-one, in_order-insert, in_order-union, union_cases, union_left, union_right}
 use Rattle.lxr_graph.proofs.RowCounts.{step_rows}
 use Rattle.lxr_model.specs.Reachable.{Reachable, the_world, held, referred, Refers, Holds, IsClosed}
@@ -60,10 +60,6 @@ unreclaimed_object m follows n h = let a = follows.objects n h in ap is_some a.3
 
 opening_good : (threads : ℕ) → GoodAt threads (opening_moment threads)
 opening_good threads = good_history (record { threads = threads; blocks = 0; evacuate = 0; every = 0; log = 0; trace = 0; within = 0; renews = false }) [] tt
-
-length-opening : (threads : ℕ) → length (opening_registers threads) ≡ REGISTERS * threads
-length-opening zero = refl
-length-opening (suc t) = let e = length-append (opening_registers t) opening_row in let k = length-opening t in omega (arith, e, k)
 
 pub opening_follows : OpeningFollows
 opening_follows threads =

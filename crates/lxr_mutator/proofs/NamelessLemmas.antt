@@ -31,7 +31,7 @@ use Rattle.lxr_mutator.specs.Mutating.{Mutating, is_new, next_name, nil, op_now,
 use Rattle.lxr_mutator.specs.Naming.{blank, blank_end, looks_up, unnamed, without_names}
 use Rattle.lxr_mutator.specs.Steps.{accepts_in, action_in, data_word, loading, storing, adding, after, after_in, based, done_with, end_by, ended, finished, has_room, in_block, in_current, is_header, is_medium, loaded, name_told, next_in, placed, reached, reaching, referring, run_in, shape_now, shape_told, started, stored, wiped, with_register}
 use Rattle.lxr_mutator.specs.Mutators.{IsMutator, IsIn}
-use Rattle.lxr_mutator.specs.Orders.{has_room_for_order, is_operation, is_ready, takes_order, with_order}
+use Rattle.lxr_mutator.specs.Orders.{has_room_for_order, is_operation, is_ready, ordered_if, takes_order}
 use Rattle.lxr_mutator.specs.Laws.{MutatorsAreSoWithoutNames, MutatorsStepWithoutNames, MutatorsTakeOrdersWithoutNames}
 
 -- ---- what names have no part in
@@ -274,20 +274,17 @@ steps_without_names m old names looks = (let so = next_so m names looks m.phase 
   spared = so.spared;
 })
 
--- an order that is taken or not, and the same without names
-abbrev order_of : Mutating → Op → Bool → Mutating × Bool
-order_of m o b = if b then (with_order m o, true) else (m, false)
-
+-- an order that is taken or not, without names
 abbrev stripped : Mutating × Bool → Mutating × Bool
 stripped order = (without_names order.0, order.1)
 
-order_by : (m : Mutating) (o : Op) (b : Bool) → order_of (without_names m) o b ≡ stripped (order_of m o b)
+order_by : (m : Mutating) (o : Op) (b : Bool) → ordered_if (without_names m) o b ≡ stripped (ordered_if m o b)
 order_by m o true = refl
 order_by m o false = refl
 
 pub orders_without_names : MutatorsTakeOrdersWithoutNames
 orders_without_names m o =
-    ap (λ n. order_of (without_names m) o (is_ready m.phase && (nat_le (length m.operations) n && (is_operation m.width o && has_room_for_order m)))) (length-map m.replies.items blank)
+    ap (λ n. ordered_if (without_names m) o (is_ready m.phase && (nat_le (length m.operations) n && (is_operation m.width o && has_room_for_order m)))) (length-map m.replies.items blank)
     ∙ order_by m o (takes_order m o)
 
 -- an end without names is no other

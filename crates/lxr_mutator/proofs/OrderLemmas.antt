@@ -1,6 +1,6 @@
 -- A mutator takes an order exactly where it may, and is a mutator again.
 use Rattle.std.proofs.Common.{◌≡◌, ◌≢◌, ℕ, ◌+◌, ◌<◌, ◌≤◌, [], ◌∷◌, Bool, true, false, arith, refl, sym, subst, inl, inr, length}
-use Rattle.std.specs.Prelude.{◌&&◌, Decides, if◌then◌else◌}
+use Rattle.std.specs.Prelude.{◌&&◌, Decides}
 use Rattle.std.proofs.lemmas.Bool.{le-leb, leb-true}
 use Rattle.std.proofs.lemmas.Bool.Decides.{Decides-and, Decides-like, Decides-ltb}
 use Rattle.std.proofs.lemmas.List.{length-append}
@@ -13,7 +13,7 @@ use Rattle.lxr_mutator.specs.declared.phases.MutatorPhase.{MutatorPhase}
 use Rattle.lxr_mutator.specs.declared.phases.MutatorPhase.TheVariants as phase
 use Rattle.lxr_mutator.specs.Mutating.{Mutating}
 use Rattle.lxr_mutator.specs.Mutators.{IsMutator, IsOperation, MayBeIn, MayTakeOrder}
-use Rattle.lxr_mutator.specs.Orders.{has_room_for_order, is_idle, is_operation, is_ready, takes_order, with_order}
+use Rattle.lxr_mutator.specs.Orders.{has_room_for_order, is_idle, is_operation, is_ready, ordered_if, takes_order, with_order}
 use Rattle.lxr_mutator.specs.Laws.{MutatorsTakeOrdersByRule, TakesOrdersByRule}
 use Rattle.lxr_mutator.proofs.MostLemmas.{few_operations}
 
@@ -75,22 +75,19 @@ module _ (m : Mutating) (o : Op) where
       }
 
   -- what it is then, and whether it took the order, by the test
-  abbrev by : Bool → Mutating × Bool
-  by b = if b then (with_order m o, true) else (m, false)
-
-  taken_by : (b : Bool) → Decides ((by b).1) (b ≡ true)
+  taken_by : (b : Bool) → Decides ((ordered_if m o b).1) (b ≡ true)
   taken_by true = (λ e. e, λ e. e)
   taken_by false = (λ e. e, λ e. e)
 
-  stays_by : (b : Bool) → (b ≡ true → MayTakeOrder m o) → IsMutator m → IsMutator (by b).0
+  stays_by : (b : Bool) → (b ≡ true → MayTakeOrder m o) → IsMutator m → IsMutator (ordered_if m o b).0
   stays_by true may is = with_order_stays (may refl) is
   stays_by false may is = is
 
-  with_by : (b : Bool) → b ≡ true → (by b).0 ≡ with_order m o
+  with_by : (b : Bool) → b ≡ true → (ordered_if m o b).0 ≡ with_order m o
   with_by true e = refl
   with_by false e = absurd (cc)
 
-  without_by : (b : Bool) → ¬ (b ≡ true) → (by b).0 ≡ m
+  without_by : (b : Bool) → ¬ (b ≡ true) → (ordered_if m o b).0 ≡ m
   without_by true other = absurd (other refl)
   without_by false other = refl
 

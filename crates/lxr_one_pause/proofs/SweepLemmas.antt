@@ -7,16 +7,18 @@ use Rattle.lxr_layout.specs.declared.TheConstants.{LINES_IN_BLOCK}
 use Rattle.lxr_layout.specs.declared.limits.Limits.{Limits}
 use Rattle.lxr_graph.specs.Names.{has}
 use Rattle.lxr_graph.specs.State.{Graph}
+use Rattle.lxr_image.specs.Settled.{AreCounted}
 use Rattle.lxr_image.specs.Tables.{Tables}
 use Rattle.lxr_blocks.specs.declared.states.BlockState.{BlockState}
 use Rattle.lxr_blocks.specs.declared.states.BlockState.TheVariants.{Free, Partly, Whole, Chosen, World}
 use Rattle.lxr_blocks.specs.Lines.{free_count, free_in}
 use Rattle.lxr_blocks.specs.States.{is_fixed, state_by_lines, state_in, state_of}
-use Rattle.lxr_model.specs.Moments.{Trace}
+use Rattle.lxr_model.specs.Moments.{Moment, Trace}
 use Rattle.lxr_blocks.specs.Swept.{AreSwept, with_states_by_lines}
 use Rattle.lxr_blocks.proofs.SweptLemmas.{swept_is_by_lines}
-use Rattle.lxr_invariant.specs.Counting.{count_at}
+use Rattle.lxr_invariant.specs.Counting.{IsUndecremented, count_at}
 use Rattle.lxr_invariant.specs.Lines.{HasBlocks, HasMarks, HasStates, KeepLines, chosen_count, is_chosen}
+use Rattle.lxr_invariant.specs.Standing.{HasBits}
 use Rattle.lxr_invariant.proofs.FrameLemmas.{chosen_same, need_same}
 use Rattle.lxr_invariant.proofs.LandingLemmas.{counted_line}
 
@@ -136,3 +138,9 @@ swept_blocks t l trace is = record {
 pub lines_kept : (t : Tables) (g : Graph) (at : Name → ℕ) (us : List Name) → HasMarks t g at us → ((n : Name) → IsTrue (has us n) → count_at t at n ≢ 0) → KeepLines t g at us
 lines_kept t g at us marks positive n o k member covers =
     counted_line t at n o k (positive n member) (λ j mark. marks.marked n o j member covers.object mark) covers.first covers.behind
+
+-- ---- counts
+
+-- where no object that is left has count 0, each that begins has a count
+pub all_counted : (t : Tables) (m : Moment) (at : Name → ℕ) → HasBits t m at m.unreclaimed → IsUndecremented t m at → AreCounted t
+all_counted t m at bits is g start none = let found = bits.starts.only g start in is.positive found.0 found.1 (ap t.counts found.2 ∙ none)

@@ -7,6 +7,7 @@ use Rattle.lxr_graph.specs.declared.report.Kind.{Kind}
 use Rattle.lxr_graph.specs.declared.report.Report.{Report}
 use Rattle.lxr_image.specs.declared.space.Space.{Space}
 use Rattle.lxr_image.specs.declared.space.Tally.{Tally}
+use Rattle.lxr_image.specs.Settled.{AreCounted}
 use Rattle.lxr_image.specs.Spaces.{IsSpace, Turns, tables_of}
 use Rattle.lxr_model.specs.Moments.{Moment, Trace}
 use Rattle.lxr_model.specs.Reports.{is_draining}
@@ -23,6 +24,7 @@ use Rattle.lxr_one_pause.proofs.BuildingLemmas.{now}
 use Rattle.lxr_one_pause.proofs.AnyKindLemmas.{HasSettled, may_trace, settled_by_kind}
 use Rattle.lxr_one_pause.proofs.DecidingLemmas.{begins_where_none, ends_where_running, grays_in_heap, has_kind, grays_used}
 use Rattle.lxr_one_pause.proofs.PausingLemmas.{can_count_sorted, nothing_told, pauses}
+use Rattle.lxr_one_pause.proofs.SweepLemmas.{all_counted}
 use Rattle.lxr_image_search.specs.declared.Wanted.TheVariants.{ToScan}
 use Rattle.lxr_image_search.specs.Search.{AvoidsFree}
 use Rattle.lxr_blocks.specs.States.{FreeBlocksAreFree}
@@ -75,6 +77,9 @@ module _ (s k : Space) (g : AbstractState) (can : CanPause s g) (counts : (g : A
 
       pub free_traced : FreeBlocksAreFree (tables_of x) x.limits.blocks
       free_traced = free_are_free x (settled_by g.moment done.parts x.report) at' done.settles.holds
+
+      pub counted_traced : AreCounted (tables_of x)
+      counted_traced = all_counted (tables_of x) (settled_by g.moment done.parts x.report) at' done.settles.holds.bits done.settles.undecremented
 
       module _ (swept : Space) (turns : Turns x swept (with_states_by_lines (tables_of x) x.limits.blocks)) where
         pub names_once : HasDistinctNames swept.report

@@ -21,7 +21,7 @@ ghost use Rattle.lxr_one_pause.specs.Steps.{with_pause_counted};
 use counting::settle_counts;
 use deciding::decide_kind;
 pub use laws::opened_can_pause;
-use lxr_blocks::sweep_lines;
+use lxr_blocks::settle_lines;
 use lxr_image::Space;
 use report::{count_where_drained, sort_report};
 use tracing::trace_by_kind;
@@ -72,7 +72,7 @@ pub fn one_pause(space: &mut Space, ask: Ask, pace: Pace)
     let kind = decide_kind(space, ask, pace);
     space.report.kind = kind;
     trace_by_kind(space, kind);
-    sweep_lines(space);
+    settle_lines(space);
     sort_report(&mut space.report);
     count_where_drained(space, kind);
     count_pause(space);

@@ -8,7 +8,7 @@ ghost use Rattle.lxr_invariant.specs.AbstractState.{AbstractState};
 ghost use Rattle.lxr_one_pause.specs.Steps.{with_evacuated};
 ghost use Rattle.lxr_one_pause.specs.Tracing.{Begins, CanBegin, CanDrain, CanEnd, Collects, Ends, HasTraced, MayTrace, SetsTrace};
 
-use lxr_blocks::sweep_lines;
+use lxr_blocks::settle_lines;
 use lxr_evac_blocks::{choose_blocks, release_blocks};
 use lxr_evac_moving::{Evacuated, evacuate};
 use lxr_graph::Kind;
@@ -45,7 +45,7 @@ fn begin(space: &mut Space)
 {
     finish_decrements(space);
     begin_trace(space);
-    sweep_lines(space);
+    settle_lines(space);
     choose_blocks(space);
     let number = space.report.number;
     set_trace(space, Some(number));

@@ -19,10 +19,6 @@ use Rattle.lxr_tables.specs.declared.counts.Lowered.TheVariants.{Stuck, Zero, No
 use Rattle.lxr_image.specs.Tables.{Tables, changed}
 use Rattle.lxr_image.specs.Reads.{granule_of, is_tracing}
 use Rattle.lxr_image.specs.Image.{granules_of}
-use Rattle.lxr_blocks.specs.States.{state_in}
-use Rattle.lxr_image_search.specs.declared.Wanted.{Wanted}
-use Rattle.lxr_image_search.specs.Search.{AvoidsFree}
-use Rattle.lxr_image_search.proofs.SearchLemmas.{avoids_by_starts}
 use Rattle.lxr_model.specs.Dead.{Dead}
 use Rattle.lxr_model.specs.Moments.{Moment}
 use Rattle.lxr_model.specs.Reachable.{Refers}
@@ -231,11 +227,6 @@ marks_other heap blocks m at ground t v r gone in_r left_r is = record {
       changed_other t.counts (granule_of (at r)) v g (λ e. mark_apart heap blocks m at ground n r o g (without_parts m.unreclaimed gone n left_n).0 in_r has_o mark (sym e)) ∙ is.marked n o g left_n has_o mark;
   elsewhere = λ g nobody nothing. changed_other t.counts (granule_of (at r)) v g (λ e. nobody r left_r (sym e)) ∙ is.elsewhere g nobody nothing;
 }
-
--- what a pass looks for stands outside Free blocks
-pub avoids_free : (l : Limits) (t : Tables) (d : Roomy Name) (st : CascadeStage) (wanted : Wanted) → Remains l t d st → AvoidsFree t wanted
-avoids_free l t d st wanted is = avoids_by_starts t wanted
-    (λ k start free. let x = is.bits.starts.only k start in is.unused x.0 (without_parts st.moment.unreclaimed st.gone x.0 x.1).0 (ap (λ z. state_in t (z / GRANULES_IN_BLOCK)) x.2 ∙ free)) is.bits.grays is.bits.dones
 
 -- what is left, at another stage at which the same names are gone
 pub remains_still : (l : Limits) (t : Tables) (d : Roomy Name) (st : CascadeStage) (under : List Place) (work : List Name) (extra ungrayed unseen : Name → ℕ) → Remains l t d st

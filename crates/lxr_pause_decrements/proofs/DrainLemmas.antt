@@ -13,7 +13,7 @@ use Rattle.lxr_graph.specs.State.{shape_of}
 use Rattle.lxr_graph.proofs.NameSets.{same_itself, same_names}
 use Rattle.lxr_image.specs.declared.space.Space.{Space}
 use Rattle.lxr_image.specs.Tables.{Tables, changed}
-use Rattle.lxr_image.specs.Spaces.{Turns, tables_of}
+use Rattle.lxr_image.specs.Spaces.{IsSpace, Turns, tables_of}
 use Rattle.lxr_image.specs.Reads.{granule_of, is_tracing}
 use Rattle.lxr_image.specs.Image.{place_word}
 use Rattle.lxr_image.proofs.SpaceLemmas.{same_limits, space_alike, still_space}
@@ -59,18 +59,22 @@ released_dead s p st r rest re =
     ((dead_parts d).member, d)
 
 -- a member stands at its place, which is in the heap
-pub object_place : (s : Space) (p : Place) (st : CascadeStage) (r : Name) → IsAt s st → IsTrue (has st.moment.unreclaimed r) → p.0 ≡ st.at r
-    → (1 ≤ p.0) × (p.0 ≤ MOST_GRANULES) × (p.0 ≤ GRANULES_IN_BLOCK * s.limits.blocks)
-object_place s p st r at in_r e =
-    let h = in_heap (tables_of s).heap s.limits.blocks st.moment st.at at.cascade.remains.ground r in_r in
-    let b = at.space.limits.blocks in
+pub member_place : (s : Space) (place : ℕ) (st : CascadeStage) (r : Name) → IsSpace s → Ground (tables_of s).heap s.limits.blocks st.moment st.at → IsTrue (has st.moment.unreclaimed r) → place ≡ st.at r
+    → (1 ≤ place) × (place ≤ MOST_GRANULES) × (place ≤ GRANULES_IN_BLOCK * s.limits.blocks)
+member_place s place st r space ground in_r e =
+    let h = in_heap (tables_of s).heap s.limits.blocks st.moment st.at ground r in_r in
+    let b = space.limits.blocks in
     (omega (arith, e, h.0), omega (arith, e, h.1, h.0, b.1), omega (arith, e, h.1, h.0))
 
+pub object_place : (s : Space) (p : Place) (st : CascadeStage) (r : Name) → IsAt s st → IsTrue (has st.moment.unreclaimed r) → p.0 ≡ st.at r
+    → (1 ≤ p.0) × (p.0 ≤ MOST_GRANULES) × (p.0 ≤ GRANULES_IN_BLOCK * s.limits.blocks)
+object_place s p st r at in_r e = member_place s p.0 st r at.space at.cascade.remains.ground in_r e
+
 -- and its header tells how many references it had at the last pause
-pub object_header : (s : Space) (p : Place) (st : CascadeStage) (r : Name) → IsAt s st → IsTrue (has st.moment.unreclaimed r) → p.0 ≡ st.at r
-    → (shape : Shape) × IsHeader (tables_of s) p.0 r shape × (shape.refs ≡ length (held_by st r))
-object_header s p st r at in_r e =
-    let a = at.cascade.remains.ground.stands r in_r in (
+pub member_header : (s : Space) (place : ℕ) (st : CascadeStage) (r : Name) → Ground (tables_of s).heap s.limits.blocks st.moment st.at → IsTrue (has st.moment.unreclaimed r) → place ≡ st.at r
+    → (shape : Shape) × IsHeader (tables_of s) place r shape × (shape.refs ≡ length (held_by st r))
+member_header s place st r ground in_r e =
+    let a = ground.stands r in_r in (
       shape_of a.0,
       record {
         name = a.2.name;
@@ -80,6 +84,10 @@ object_header s p st r at in_r e =
       sym a.3,
     )
 
+pub object_header : (s : Space) (p : Place) (st : CascadeStage) (r : Name) → IsAt s st → IsTrue (has st.moment.unreclaimed r) → p.0 ≡ st.at r
+    → (shape : Shape) × IsHeader (tables_of s) p.0 r shape × (shape.refs ≡ length (held_by st r))
+object_header s p st r at in_r e = member_header s p.0 st r at.cascade.remains.ground in_r e
+
 pub released_place : (s : Space) (p : Place) (st : CascadeStage) (r : Name) (rest : Name → ℕ) → Releasing s p.0 st r rest → (1 ≤ p.0) × (p.0 ≤ MOST_GRANULES) × (p.0 ≤ GRANULES_IN_BLOCK * s.limits.blocks)
 released_place s p st r rest re = object_place s p st r re.stage (released_dead s p.0 st r rest re).0 re.stands
 
@@ -88,27 +96,33 @@ pub released_header : (s : Space) (p : Place) (st : CascadeStage) (r : Name) (re
 released_header s p st r rest re = object_header s p st r re.stage (released_dead s p.0 st r rest re).0 re.stands
 
 -- the words of the references lie in the heap
-pub field_place : (s : Space) (p : Place) (i : ℕ) (st : CascadeStage) (r : Name) → IsAt s st → HasField p.0 i st r
-    → (1 ≤ p.0) × (p.0 ≤ MOST_GRANULES) × (2 * (p.0 - 1) + 1 + i < WORDS_IN_BLOCK * s.limits.blocks) × (i < 1024)
-field_place s p i st r at field =
-    let a = at.cascade.remains.ground.stands r field.member in
+pub member_field : (s : Space) (place i : ℕ) (st : CascadeStage) (r : Name) → IsSpace s → Ground (tables_of s).heap s.limits.blocks st.moment st.at → HasField place i st r
+    → (1 ≤ place) × (place ≤ MOST_GRANULES) × (2 * (place - 1) + 1 + i < WORDS_IN_BLOCK * s.limits.blocks) × (i < 1024)
+member_field s place i st r space ground field =
+    let a = ground.stands r field.member in
     let f = a.2.fits in
     let q = a.2.placed in
     let k = a.2.shape.0 in
     let e = field.stands in
     let h = field.index in
-    let b = at.space.limits.blocks in
+    let b = space.limits.blocks in
     let n = a.3 in
     (omega (arith, q, e), omega (arith, f, e, b.1), omega (arith, f, q, e, n, h), omega (arith, k, n, h))
 
-field_holds : (s : Space) (p : Place) (i : ℕ) (st : CascadeStage) (r : Name) (ref : Option Name) → IsAt s st → HasField p.0 i st r
-    → slice_get (held_by st r) i ≡ Some ref → (tables_of s).heap (2 * (p.0 - 1) + 1 + i) ≡ place_word st.at ref
-field_holds s p i st r ref at field e = ap (λ z. (tables_of s).heap (2 * (z - 1) + 1 + i)) field.stands ∙ at.cascade.remains.ground.fields r i ref field.dead e
+pub field_place : (s : Space) (p : Place) (i : ℕ) (st : CascadeStage) (r : Name) → IsAt s st → HasField p.0 i st r
+    → (1 ≤ p.0) × (p.0 ≤ MOST_GRANULES) × (2 * (p.0 - 1) + 1 + i < WORDS_IN_BLOCK * s.limits.blocks) × (i < 1024)
+field_place s p i st r at field = member_field s p.0 i st r at.space at.cascade.remains.ground field
 
 -- what a reference holds
+pub member_reads : (s : Space) (place i word : ℕ) (st : CascadeStage) (r : Name) → Ground (tables_of s).heap s.limits.blocks st.moment st.at → HasField place i st r → word ≡ (tables_of s).heap (2 * (place - 1) + 1 + i)
+    → (ref : Option Name) × (slice_get (held_by st r) i ≡ Some ref) × (word ≡ place_word st.at ref)
+member_reads s place i word st r ground field is =
+    let g = got (held_by st r) i field.index in
+    (g.0, g.1, is ∙ ap (λ z. (tables_of s).heap (2 * (z - 1) + 1 + i)) field.stands ∙ ground.fields r i g.0 field.dead g.1)
+
 pub field_read : (s : Space) (p : Place) (i word : ℕ) (st : CascadeStage) (r : Name) → IsAt s st → HasField p.0 i st r → word ≡ (tables_of s).heap (2 * (p.0 - 1) + 1 + i)
     → (ref : Option Name) × (slice_get (held_by st r) i ≡ Some ref) × (word ≡ place_word st.at ref)
-field_read s p i word st r at field is = let g = got (held_by st r) i field.index in (g.0, g.1, is ∙ field_holds s p i st r g.0 at field g.1)
+field_read s p i word st r at field is = member_reads s p.0 i word st r at.cascade.remains.ground field is
 
 -- the stage once reference i of r is lowered
 abbrev pub next_field : CascadeStage → Name → ℕ → CascadeStage

@@ -17,6 +17,7 @@ use Rattle.lxr_image.specs.Tables.{Tables}
 use Rattle.lxr_image.specs.Spaces.{tables_of}
 use Rattle.lxr_image.specs.Reads.{granule_of}
 use Rattle.lxr_image.specs.Image.{place_word}
+use Rattle.lxr_image.specs.Settled.{AreCounted}
 use Rattle.lxr_image.proofs.SpaceLemmas.{space_alike}
 use Rattle.lxr_model.specs.Dead.{Dead}
 use Rattle.lxr_model.specs.Moments.{Moment}
@@ -390,3 +391,15 @@ finished s st is =
           omega (arith, listed, worked, other))
           empty;
     }
+
+-- and each object that is left has a count
+pub starts_counted : (s : Space) (st : CascadeStage) → IsFinished s st → AreCounted (tables_of s)
+starts_counted s st is g start none =
+    let left = is.emptied.opening.stage.cascade.remains in
+    let x = left.bits.starts.only g start in
+    let parts = without_parts st.moment.unreclaimed st.gone x.0 x.1 in
+    let zero : count_at (tables_of s) st.at x.0 ≡ 0 = ap (tables_of s).counts x.2 ∙ none in
+    elim (tested (has st.moment.stuck x.0)) [
+      | inl k ↦ let e = left.stuck x.0 parts.0 k in absurd (omega (arith, e, zero))
+      | inr k ↦ not_both (has st.gone x.0) (is.empty x.0 parts.0 k zero) parts.1
+    ]

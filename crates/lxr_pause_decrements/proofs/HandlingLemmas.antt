@@ -2,7 +2,7 @@
 use Rattle.std.proofs.Common.{◌≡◌, ℕ, zero, suc, ◌+◌, ◌*◌, ◌<◌, ◌≤◌, refl, sym, ap, subst, ◌∙◌, inl, inr, arith, Bool, true, false, cond, List, [], ◌∷◌, ◌++◌, IsTrue, length, nat_eq, nat_le}
 use Rattle.std.specs.Prelude.{not, ◌&&◌, ◌||◌, Some, filter, map, min, reverse}
 use Rattle.std.proofs.lemmas.List.{length-map, length-reverse, reverse-append}
-use Rattle.std.proofs.lemmas.Bool.{and_right, false_from_ne_true, or_cases, or_left, or_right}
+use Rattle.std.proofs.lemmas.Bool.{and_right, or_cases, or_left, or_right}
 use Rattle.std.proofs.lemmas.Bool.Decides.{eqb_tells, leb_tells, nat_tests}
 use Rattle.lxr_base.specs.Roomy.{Roomy, pushed}
 use Rattle.lxr_layout.specs.declared.TheConstants.{DECREMENT_COUNT, DECREMENT_CURSOR, GRANULES_IN_BLOCK}
@@ -16,8 +16,6 @@ use Rattle.lxr_image.specs.declared.space.Space.{Space}
 use Rattle.lxr_image.specs.Tables.{Tables, changed}
 use Rattle.lxr_image.specs.Spaces.{tables_of}
 use Rattle.lxr_image.specs.Reads.{granule_of}
-use Rattle.lxr_image_search.specs.declared.Wanted.TheVariants.{Handled}
-use Rattle.lxr_image_search.specs.Search.{NoneWanted}
 use Rattle.lxr_model.specs.Moments.{Moment}
 use Rattle.lxr_model.specs.References.{occurrences, references, references_from}
 use Rattle.lxr_model.proofs.ReachableLemmas.{dead_parts}
@@ -29,7 +27,7 @@ use Rattle.lxr_invariant.proofs.FrameLemmas.{none_undone}
 use Rattle.lxr_invariant.proofs.NameLemmas.{no_member}
 use Rattle.lxr_pause_decrements.specs.Cascade.{Cascade, CascadeStage, Handling, IsHandling, IsSeeking, Remains, drawn_from, kept, later, seeking}
 use Rattle.lxr_blocks.specs.Clearing.{without_object}
-use Rattle.lxr_pause_decrements.proofs.CascadeLemmas.{append_nothing, bare, bare_uncounted, count_stays, granules_differ, has_reversed, in_heap, places_more, refs_reversed, remains_fall, remains_still, started, written_other}
+use Rattle.lxr_pause_decrements.proofs.CascadeLemmas.{append_nothing, bare, bare_uncounted, count_stays, granules_differ, has_reversed, places_more, refs_reversed, remains_fall, remains_still, written_other}
 use Rattle.lxr_pause_decrements.proofs.GrayLemmas.{BeginsAlone, grays_handled, handled_on}
 
 -- ---- the names that still count
@@ -175,7 +173,7 @@ refs_none g (u ∷ us) gone o left went = elim (tested (has gone u)) [
 ]
 
 -- where a name stands neither among the drawn entries of the list nor among the others, it does not stand there at all
-listed_none : (f : ℕ → ℕ) (drawn n p : ℕ) → entries_between f 0 (min drawn n) p ≡ 0 → entries_between f drawn n p ≡ 0 → entries_between f 0 n p ≡ 0
+pub listed_none : (f : ℕ → ℕ) (drawn n p : ℕ) → entries_between f 0 (min drawn n) p ≡ 0 → entries_between f drawn n p ≡ 0 → entries_between f 0 n p ≡ 0
 listed_none f drawn zero p before behind = refl
 listed_none f drawn (suc n) p before behind = elim (leb_tells drawn n) [
   | inl c ↦
@@ -241,22 +239,6 @@ handling_room l t w d st is some =
 pub same_handling : (l m : Limits) (t u : Tables) (w x : Roomy Place) (d e : Roomy Name) (st : CascadeStage) → m ≡ l → u ≡ t → x ≡ w → e ≡ d → Handling l t w d st → Handling m u x e st
 same_handling l m t u w x d e st a b c f is =
     subst (λ z. Handling m u x z st) (sym f) (subst (λ z. Handling m u z d st) (sym c) (subst (λ z. Handling m z w d st) (sym b) (subst (λ z. Handling z t w d st) (sym a) is)))
-
--- past the heap nothing is done
-none_past : (s : Space) (st : CascadeStage) (k : ℕ) → IsHandling s st → GRANULES_IN_BLOCK * s.limits.blocks ≤ k → (tables_of s).dones k ≡ false
-none_past s st k is past = false_from_ne_true ((tables_of s).dones k) (λ done.
-    let left = is.handling.remains in
-    let x = started s.limits (tables_of s) s.report.dead st k left (left.bits.dones k done) in
-    let h = in_heap (tables_of s).heap s.limits.blocks st.moment st.at left.ground x.0 x.1.member in
-    let e = x.1.granule in
-    absurd (omega (arith, h.1, e, past)))
-
-pub none_handled : (s : Space) (st : CascadeStage) (from : ℕ) → IsHandling s st → NoneWanted (tables_of s) Handled 0 from → NoneWanted (tables_of s) Handled from (GRANULES_IN_BLOCK * s.limits.blocks)
-    → (k : ℕ) → (tables_of s).dones k ≡ false
-none_handled s st from is before behind k = elim (leb_tells from k) [
-  | inr c ↦ before k (omega arith) c.1
-  | inl c ↦ elim (leb_tells (GRANULES_IN_BLOCK * s.limits.blocks) k) [ inl past ↦ none_past s st k is past.1 | inr within ↦ behind k c.1 within.1 ]
-]
 
 -- all that was handled is reclaimed, and its places lie in the worklist
 pub all_handled : (s : Space) (st : CascadeStage) → IsHandling s st → ((k : ℕ) → (tables_of s).dones k ≡ false)

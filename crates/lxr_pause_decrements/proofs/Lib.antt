@@ -9,5 +9,4 @@ pub mod DropLemmas
 pub mod BridgeLemmas
 pub mod OpenedLemmas
 pub mod HandledLemmas
-pub mod ClearedLemmas
-pub mod BlockLemmas
+pub mod FoundLemmas

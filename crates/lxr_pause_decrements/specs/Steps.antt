@@ -1,15 +1,27 @@
 -- What each step of the decrements asks, and from which stage to which it leads.
-use Rattle.std.specs.Prelude.{ℕ, ◌+◌, List, [], length, reverse}
+use Rattle.std.specs.Prelude.{◌≡◌, ℕ, ◌+◌, false, List, [], ◌++◌, length, reverse}
 use Rattle.lxr_layout.specs.declared.Name.{Name}
+use Rattle.lxr_layout.specs.declared.Place.{Place}
 use Rattle.lxr_image.specs.declared.space.Space.{Space}
 use Rattle.lxr_image.specs.Spaces.{tables_of}
+use Rattle.lxr_model.specs.Dead.{Dead}
 use Rattle.lxr_model_counting.specs.Lowering.{once}
 use Rattle.lxr_invariant.specs.Counting.{occurrences_from}
-use Rattle.lxr_pause_decrements.specs.Cascade.{CascadeStage, Draining, Drains, FieldWaits, IsAt, IsEmptied, IsFinished, IsHandling, IsOpening, IsSeeking, LooksAt, LooksFrom, LooksThrough, Reaches, Releasing, Waiting, drawn_from, graying, held_by, later, looking, seeking}
+use Rattle.lxr_pause_decrements.specs.Cascade.{CascadeStage, Draining, Drains, FieldWaits, HasField, IsAt, IsEmptied, IsFinished, IsHandling, IsOpening, IsSeeking, LooksAt, LooksFrom, LooksThrough, Reaches, Releasing, Waiting, drawn_from, graying, held_by, later, looking, seeking}
 
--- some of what was handled is reclaimed
-abbrev pub ReclaimsSomeHandled : Space → Space → Type 0
-ReclaimsSomeHandled before after = (st : CascadeStage) → IsHandling before st → (gone : List Name) × IsHandling after (later st gone st.work st.extra)
+-- Some of what was handled is reclaimed, and its places are put at the end of the worklist. What wasn't done isn't.
+pub record ReclaimsSomeHandled (before after : Space) : Type 0 where
+  pub stage : (st : CascadeStage) → IsHandling before st → (gone : List Name) × IsHandling after (later st gone st.work st.extra)
+  pub added : (places : List Place) × (after.work.items ≡ before.work.items ++ places)
+  pub dones : (k : ℕ) → (tables_of before).dones k ≡ false → (tables_of after).dones k ≡ false
+
+-- what is handled may be reclaimed where a reference of a dead object tells
+abbrev pub MayReclaimField : Space → ℕ → ℕ → Type 0
+MayReclaimField s place i = (st : CascadeStage) × (r : Name) × IsHandling s st × HasField place i st r
+
+-- and where all references of a dead object do
+abbrev pub MayReclaimReferents : Space → ℕ → Type 0
+MayReclaimReferents s place = (st : CascadeStage) × (r : Name) × IsHandling s st × Dead st.moment.last st.moment.unreclaimed st.moment.stuck r × (place ≡ st.at r)
 
 -- all that was handled is to be reclaimed; then nothing is done, all waits in the list of decrements, and what was dropped is to be
 -- looked for at the drawn entries of the list and among what the handled objects referred to

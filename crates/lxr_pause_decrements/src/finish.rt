@@ -155,4 +155,5 @@ pub fn finish_decrements(space: &mut Space)
     reclaim_all_handled(space);
     reclaim_all_dropped(space);
     lower_all(space);
+    space.trust_counts();
 }

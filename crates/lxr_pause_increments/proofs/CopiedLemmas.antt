@@ -16,6 +16,7 @@ use Rattle.lxr_image.specs.Reads.{granule_of}
 use Rattle.lxr_image.specs.Image.{place_word}
 use Rattle.lxr_image.specs.ImageLaws.{placed}
 use Rattle.lxr_image.proofs.ImageLemmas.{words_cover, words_even}
+use Rattle.lxr_image.proofs.NewLemmas.{placed_here, placed_other}
 use Rattle.lxr_blocks.specs.Kept.{IsKeptGranule, KeepsGranules}
 use Rattle.lxr_blocks.specs.Lines.{is_free}
 use Rattle.lxr_blocks.specs.Placing.{IsFull, IsRest}
@@ -30,7 +31,7 @@ use Rattle.lxr_pause_promote.specs.Copying.{StandsKept}
 use Rattle.lxr_pause_promote.specs.Promotion.{Promotes, with_promotion}
 use Rattle.lxr_pause_promote.proofs.CopyLemmas.{StandsBeside, is_promoted, promoted_beside}
 use Rattle.lxr_pause_promote.proofs.PlacedLemmas.{keeps_fewer}
-use Rattle.lxr_pause_promote.proofs.EitherLemmas.{placed_here, placed_other, some_granules}
+use Rattle.lxr_pause_promote.proofs.EitherLemmas.{some_granules}
 use Rattle.lxr_pause_increments.specs.Accounted.{IsFixed, IsRegisterFixed, references_at}
 use Rattle.lxr_pause_increments.specs.Increments.{IncrementStage}
 use Rattle.lxr_pause_increments.specs.Moving.{IsMoving, IsTaken}

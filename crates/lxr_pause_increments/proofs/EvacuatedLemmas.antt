@@ -19,6 +19,7 @@ use Rattle.lxr_image.specs.Reads.{StandsWhole, granule_of}
 use Rattle.lxr_image.specs.Image.{ArePlacesOf, granules_of}
 use Rattle.lxr_image.specs.ImageLaws.{placed}
 use Rattle.lxr_image.proofs.ImageLemmas.{words_cover, words_even}
+use Rattle.lxr_image.proofs.NewLemmas.{placed_here, placed_other}
 use Rattle.lxr_blocks.specs.Kept.{IsAmong, IsKeptGranule, KeepsGranules}
 use Rattle.lxr_blocks.specs.Placing.{IsFull}
 use Rattle.lxr_blocks.specs.declared.states.BlockState.TheVariants.{Chosen}
@@ -39,7 +40,7 @@ use Rattle.lxr_invariant.proofs.PlaceLemmas.{same_object}
 use Rattle.lxr_pause_promote.specs.Either.{HoldEither, IsPlaceOf, StandsNow}
 use Rattle.lxr_pause_promote.specs.Promotion.{with_promotion}
 use Rattle.lxr_pause_promote.proofs.CopyLemmas.{StandsBeside}
-use Rattle.lxr_pause_promote.proofs.EitherLemmas.{holds_placed, place_split, placed_here, placed_other, some_granules, stands_moved, whole_on}
+use Rattle.lxr_pause_promote.proofs.EitherLemmas.{holds_placed, place_split, some_granules, stands_moved, whole_on}
 use Rattle.lxr_pause_promote.proofs.FewerLemmas.{HasFewerLines, beside_fewer, handed_on, marked_grows, promotion_fewer, states_joined, was_open_run}
 use Rattle.lxr_pause_promote.proofs.WordLemmas.{ranges_apart}
 use Rattle.lxr_pause_increments.specs.Moving.{IsMoving, IsTaken}

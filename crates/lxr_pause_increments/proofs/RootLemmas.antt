@@ -14,6 +14,7 @@ use Rattle.lxr_layout.specs.declared.LogEntry.{LogEntry}
 use Rattle.lxr_layout.specs.Registers.{AreNil, nil}
 use Rattle.lxr_graph.specs.Names.{has, same_held}
 use Rattle.lxr_graph.proofs.NameSets.{has-union}
+use Rattle.lxr_graph.proofs.RowLemmas.{slice_get-mapped}
 use Rattle.lxr_image.specs.declared.space.Space.{Space}
 use Rattle.lxr_image.specs.Image.{ArePlacesOf, place_word}
 use Rattle.lxr_image.proofs.PassedLemmas.{nil_there, passed_over}
@@ -41,12 +42,6 @@ use Rattle.lxr_pause_increments.proofs.FewLemmas.{few_held}
 use Rattle.lxr_pause_increments.proofs.OrderLemmas.{accounts_held, accounts_same, counted_more, unmapped, zip_got, zip_taken}
 
 -- ---- logged references
-
--- an entry of a mapped list is that of an entry
-pub got_mapped : {X Y : Type 0} (f : X → Y) (xs : List X) (i : ℕ) (y : Y) → slice_get (map f xs) i ≡ Some y → (x : X) × (slice_get xs i ≡ Some x) × (y ≡ f x)
-got_mapped f [] i y e = absurd (cc)
-got_mapped f (x ∷ xs) zero y e = (x, refl, cc)
-got_mapped f (x ∷ xs) (suc i) y e = got_mapped f xs i y e
 
 pub got_field : (ws : List Field) (i : ℕ) (w : Field) → slice_get ws i ≡ Some w → IsTrue (has_field ws w)
 got_field [] i w e = absurd (cc)
@@ -82,7 +77,7 @@ pub record IsEntryOf (m : Moment) (st : IncrementStage) (fields : List Field) (i
 pub entry_field : (s : Space) (m : Moment) (at : Name → ℕ) (st : IncrementStage) (fields : List Field) (i : ℕ) (entry : LogEntry) → IsIncrementing s m at st → IsLogOrder m at fields s.logged.items → slice_get s.logged.items i ≡ Some entry
     → IsEntryOf m st fields i entry
 entry_field s m at st fields i entry incrementing order got =
-    let x = got_mapped (entry_of m at) fields i entry (ap (λ z. slice_get z i) order.entries ∙ got) in
+    let x = slice_get-mapped (entry_of m at) fields i entry (ap (λ z. slice_get z i) order.entries ∙ got) in
     let w : Field = x.0 in
     let written : IsTrue (has_field m.written w) = has_field_permuted m.written fields w order.order ∙ got_field fields i w x.1 in
     let facts = incrementing.follows.written w.0 w.1 written in

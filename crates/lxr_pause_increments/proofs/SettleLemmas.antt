@@ -15,11 +15,11 @@ use Rattle.lxr_graph.proofs.NameSets.{same_itself}
 use Rattle.lxr_image.specs.declared.space.Space.{Space}
 use Rattle.lxr_image.specs.Spaces.{tables_of}
 use Rattle.lxr_image.specs.Reads.{granule_of}
+use Rattle.lxr_image.proofs.NewLemmas.{placed_here}
 use Rattle.lxr_model.specs.Moments.{Moment}
 use Rattle.lxr_invariant.specs.Raised.{with_promoted}
 use Rattle.lxr_invariant.specs.Standing.{place_of}
 use Rattle.lxr_pause_promote.specs.Copying.{StandsAt, StandsKept}
-use Rattle.lxr_pause_promote.proofs.EitherLemmas.{placed_here}
 use Rattle.lxr_pause_increments.specs.Accounted.{GoesOn}
 use Rattle.lxr_pause_increments.specs.Increments.{IncrementStage, IsIncrementing, MayBeRaised, RaisingLeaves, left, stage_with}
 use Rattle.lxr_pause_increments.specs.Promotion.{RaisesAt, TakesIn, fills}

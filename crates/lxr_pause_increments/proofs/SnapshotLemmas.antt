@@ -11,6 +11,7 @@ use Rattle.lxr_layout.specs.declared.TheConstants.{TRACING_WORD}
 use Rattle.lxr_graph.specs.Names.{has, same_name}
 use Rattle.lxr_graph.specs.State.{object_at, refs_of}
 use Rattle.lxr_graph.proofs.NameSets.{has-union, same_names, union_cases}
+use Rattle.lxr_graph.proofs.RowLemmas.{slice_get-mapped}
 use Rattle.lxr_image.specs.declared.space.Space.{Space}
 use Rattle.lxr_image.specs.Tables.{Tables}
 use Rattle.lxr_image.specs.Spaces.{IsSpace, Turns, tables_of}
@@ -30,7 +31,7 @@ use Rattle.lxr_pause_increments.specs.Raising.{RaisesGrays, RaisesMarks}
 use Rattle.lxr_image.specs.Reads.{is_tracing}
 use Rattle.lxr_pause_increments.specs.Traced.{OldValuesFit, with_grays, with_old_grays}
 use Rattle.lxr_pause_increments.proofs.TracedLemmas.{grays_join, old_grays_from, only_old_grays, or_none}
-use Rattle.lxr_pause_increments.proofs.RootLemmas.{got_field, got_mapped, log_order}
+use Rattle.lxr_pause_increments.proofs.RootLemmas.{got_field, log_order}
 use Rattle.lxr_pause_increments.proofs.HeldLemmas.{member_place}
 use Rattle.lxr_pause_increments.proofs.MovingLemmas.{differ_now, unreclaimed_still}
 use Rattle.lxr_pause_increments.proofs.StageLemmas.{all_made}
@@ -114,7 +115,7 @@ grays_raise t es (Some trace) e = λ k. (
 old_value_stands : (s : Space) (m : Moment) (at : Name → ℕ) (st : IncrementStage) → IsIncrementing s m at st → (p : ℕ) → IsOldValue s.logged.items p → p ≢ 0 → (o : Name) × IsTrue (has m.unreclaimed o) × (p ≡ st.now o)
 old_value_stands s m at st is p old some =
     let order = log_order s m at st is in
-    let x = got_mapped (entry_of m at) order.0 old.0 old.1 (ap (λ z. slice_get z old.0) order.1.entries ∙ old.2) in
+    let x = slice_get-mapped (entry_of m at) order.0 old.0 old.1 (ap (λ z. slice_get z old.0) order.1.entries ∙ old.2) in
     let w : Field = x.0 in
     let written = has_field_permuted m.written order.0 w order.1.order ∙ got_field order.0 old.0 w x.1 in
     let facts = is.follows.written w.0 w.1 written in

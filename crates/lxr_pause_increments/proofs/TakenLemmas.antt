@@ -19,6 +19,7 @@ use Rattle.lxr_image.specs.Spaces.{tables_of}
 use Rattle.lxr_image.specs.Image.{granules_of}
 use Rattle.lxr_image.specs.ImageLaws.{placed}
 use Rattle.lxr_image.specs.Reads.{granule_of}
+use Rattle.lxr_image.proofs.NewLemmas.{placed_here}
 use Rattle.lxr_blocks.specs.Kept.{KeepsGranules}
 use Rattle.lxr_blocks.specs.States.{KeepsState}
 use Rattle.lxr_model.specs.Moments.{Moment}
@@ -37,7 +38,6 @@ use Rattle.lxr_invariant.proofs.PlaceLemmas.{BeginsLine, line_mark}
 use Rattle.lxr_pause_promote.specs.Copying.{StandsAt, StandsKept}
 use Rattle.lxr_pause_promote.specs.Promotion.{Promotes, with_promotion}
 use Rattle.lxr_pause_promote.proofs.CopyLemmas.{IsPromoted, is_promoted}
-use Rattle.lxr_pause_promote.proofs.EitherLemmas.{placed_here}
 use Rattle.lxr_pause_promote.proofs.TableLemmas.{stands_after}
 use Rattle.lxr_pause_increments.specs.Accounted.{GoesOn}
 use Rattle.lxr_pause_increments.specs.Increments.{HasRoomToRaise, IncrementStage, IsIncrementing, RaisingLeaves, RaisingLeavesTables, StaysRemembered, count_so_far, left}

@@ -1,9 +1,9 @@
 -- Words and registers that hold the place of what is held, where it stands now or still where it stood, while objects are copied.
-use Rattle.std.proofs.Common.{◌≡◌, ℕ, ◌+◌, ◌*◌, ◌^◌, ◌%◌, ◌/◌, ◌<◌, ◌≤◌, refl, sym, ap, subst, ◌∙◌, inl, inr, ◌⊎◌, arith, true, false, cond, List, length, map, nat_le}
+use Rattle.std.proofs.Common.{◌≡◌, ℕ, ◌+◌, ◌*◌, ◌^◌, ◌%◌, ◌/◌, ◌<◌, ◌≤◌, refl, sym, ap, subst, ◌∙◌, inl, inr, ◌⊎◌, arith, true, cond, List, length, map, nat_le}
 use Rattle.std.specs.Prelude.{None, Option, Some, slice_get, slice_set}
 use Rattle.std.proofs.Math.ListN.{length-map, length-set}
 use Rattle.std.proofs.lemmas.Bool.{cases_Bool}
-use Rattle.std.proofs.lemmas.Bool.Decides.{eqb_tells, nat_tests}
+use Rattle.std.proofs.lemmas.Bool.Decides.{nat_tests}
 use Rattle.std.proofs.lemmas.Option.{slice_get-map, slice_get_within}
 use Rattle.lxr_layout.specs.declared.Header.TheVariants.{Moved, Object as AnObject}
 use Rattle.lxr_layout.specs.declared.Name.{Name}
@@ -13,13 +13,14 @@ use Rattle.lxr_layout.specs.Objects.{header_of, moved_word, word_count}
 use Rattle.lxr_layout.specs.Places.{first_word}
 use Rattle.lxr_graph.specs.Names.{same_name}
 use Rattle.lxr_graph.specs.State.{Object, shape_of}
-use Rattle.lxr_graph.proofs.NameSets.{same_itself, same_names}
-use Rattle.lxr_graph.proofs.RowLemmas.{slice_get-set}
+use Rattle.lxr_graph.proofs.NameSets.{same_names}
+use Rattle.lxr_graph.proofs.RowLemmas.{set_cases}
 use Rattle.lxr_image.specs.Tables.{Tables}
 use Rattle.lxr_image.specs.Reads.{StandsWhole, granule_of}
 use Rattle.lxr_image.specs.Image.{ArePlacesOf, granules_of, place_word}
 use Rattle.lxr_image.specs.ImageLaws.{placed}
 use Rattle.lxr_image.proofs.ImageLemmas.{words_cover}
+use Rattle.lxr_image.proofs.NewLemmas.{placed_here, placed_other}
 use Rattle.lxr_pause_promote.specs.Either.{HoldEither, HoldsEither, IsPlaceOf, StandsNow}
 
 -- ---- an object
@@ -71,13 +72,6 @@ stands_same t u blocks at now n o heap is =
 
 -- ---- one more place
 
--- the place of the name that is placed, and of others
-pub placed_here : (now : Name → ℕ) (o : Name) (p : ℕ) → placed now o p o ≡ p
-placed_here now o p = ap (λ b. cond b p (now o)) (same_itself o)
-
-pub placed_other : (now : Name → ℕ) (o : Name) (p : ℕ) (n : Name) → same_name n o ≡ false → placed now o p n ≡ now n
-placed_other now o p n differ = ap (λ b. cond b p (now n)) differ
-
 -- a place is one that it was, or the new one
 pub place_split : (at now : Name → ℕ) (o : Name) (p : ℕ) (n : Name) (r : ℕ) → IsPlaceOf at (placed now o p) n r → IsPlaceOf at now n r ⊎ ((n ≡ o) × (r ≡ p))
 place_split at now o p n r (inl e) = inl (inl e)
@@ -127,15 +121,6 @@ held_began at places names is = record {
 
 -- ---- a register is written
 
--- the entry of a list that was written, or another one
-cases_at : {X : Type 0} (xs : List X) (i : ℕ) (v : X) (j : ℕ) (x : X) → i < length xs → slice_get (slice_set xs i v) j ≡ Some x → ((j ≡ i) × (v ≡ x)) ⊎ (slice_get xs j ≡ Some x)
-cases_at xs i v j x h e =
-    let s = slice_get-set xs i v j h in
-    elim (eqb_tells j i) [
-      | inl k ↦ inl (k.1, let q : Some v ≡ Some x = sym (ap (λ b. cond b (Some v) (slice_get xs j)) k.0) ∙ sym s ∙ e in cc)
-      | inr k ↦ inr (sym (ap (λ b. cond b (Some v) (slice_get xs j)) k.0) ∙ sym s ∙ e)
-    ]
-
 -- with the place where what it is to hold stands now
 pub hold_written : (at now : Name → ℕ) (places : List Place) (held : List (Option Name)) (k : ℕ) (p : Place) (r : Option Name) → slice_get held k ≡ Some r → p.0 ≡ place_word now r → HoldEither at now places held
     → HoldEither at now (slice_set places k p) held
@@ -144,11 +129,11 @@ hold_written at now places held k p r has_k place is =
     let many = is.as_many in
     record {
       as_many = length-set places k p ∙ is.as_many;
-      each = λ j q x place_is held_is. elim (cases_at places k p j q (omega (arith, low, many)) place_is) [
+      each = λ j q x place_is held_is. elim (set_cases places k p j q (omega (arith, low, many)) place_is) [
         | inl c ↦
             let same : Some r ≡ Some x = sym has_k ∙ ap (slice_get held) (sym c.0) ∙ held_is in
             let one : r ≡ x = cc in
             inl (ap (λ y. y.0) (sym c.1) ∙ place ∙ ap (place_word now) one)
-        | inr c ↦ is.each j q x c held_is
+        | inr c ↦ is.each j q x c.1 held_is
       ];
     }

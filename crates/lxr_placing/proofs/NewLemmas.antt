@@ -16,6 +16,7 @@ use Rattle.lxr_image.specs.Reads.{granule_of}
 use Rattle.lxr_image.specs.Image.{granules_of}
 use Rattle.lxr_image.specs.ImageLaws.{placed}
 use Rattle.lxr_image.proofs.ImageLemmas.{Rewrites, rewrites}
+use Rattle.lxr_image.proofs.NewLemmas.{placed_here}
 use Rattle.lxr_model.specs.Moments.{Moment, after_call}
 use Rattle.lxr_invariant.specs.AbstractState.{AbstractState, members}
 use Rattle.lxr_invariant.specs.Lines.{Covers}
@@ -30,10 +31,7 @@ shape_of-fresh s = λ j. record { refs = length-replicate {A = Option Name} s.re
 pub size_fresh : (s : Shape) → granules_of (fresh s) ≡ word_count s / 2
 size_fresh s = ap (λ z. word_count z / 2) (shape_of-fresh s)
 
--- the placed name stands at its place, and each other name where it did
-pub placed_here : (at : Name → ℕ) (n : Name) (p : ℕ) → placed at n p n ≡ p
-placed_here at n p = ap (λ b. cond b p (at n)) (same_itself n)
-
+-- a name other than the placed one stands where it did
 placed_other : (at : Name → ℕ) (n : Name) (p : ℕ) (m : Name) → (m ≡ n → ⊥) → placed at n p m ≡ at m
 placed_other at n p m differ = elim (same_name m n) as (λ b. same_name m n ≡ b → cond b p (at m) ≡ at m) [
   | true ↦ λ k. absurd (differ (same_names m n k))

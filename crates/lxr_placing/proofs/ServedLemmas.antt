@@ -22,7 +22,7 @@ use Rattle.lxr_image.specs.Reads.{IsName, granule_of}
 use Rattle.lxr_image.specs.Image.{ArePlacesOf, IsImage, granules_of, place_word}
 use Rattle.lxr_image.specs.ImageLaws.{placed}
 use Rattle.lxr_image.proofs.ImageLemmas.{places_still, register_keeps_places}
-use Rattle.lxr_image.proofs.NewLemmas.{new_keeps_image}
+use Rattle.lxr_image.proofs.NewLemmas.{new_keeps_image, placed_here}
 use Rattle.lxr_blocks.specs.declared.states.BlockState.TheVariants.{Chosen}
 use Rattle.lxr_blocks.specs.Lines.{is_free}
 use Rattle.lxr_blocks.specs.Kept.{IsAmong, IsPlacedBeside}
@@ -48,7 +48,7 @@ use Rattle.lxr_invariant.proofs.MemberLemmas.{member_refers, undone_all}
 use Rattle.lxr_invariant.proofs.RestLemmas.{entries_stay}
 use Rattle.lxr_placing.specs.Placing.{IsServable, IsServed, IsServedFrom}
 use Rattle.lxr_placing.proofs.PlacingLemmas.{IsTakenIn, counter_stays, has_room, placed_apart, placed_states}
-use Rattle.lxr_placing.proofs.NewLemmas.{IsBeside, covers_after, covers_before, graph_then, is_beside, moment_then, new_name, own_covers, placed_here, places_then, size_fresh}
+use Rattle.lxr_placing.proofs.NewLemmas.{IsBeside, covers_after, covers_before, graph_then, is_beside, moment_then, new_name, own_covers, places_then, size_fresh}
 use Rattle.lxr_placing.proofs.TraceLemmas.{traced_served}
 
 -- ---- the whole

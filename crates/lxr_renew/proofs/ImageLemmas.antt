@@ -19,8 +19,9 @@ use Rattle.lxr_model_counting.proofs.DistinctLemmas.{tested}
 use Rattle.lxr_invariant.proofs.NameLemmas.{in_either, in_first, no_member}
 use Rattle.lxr_invariant.proofs.PlaceLemmas.{same_object}
 use Rattle.lxr_graph.specs.Renewing.{renewed_graph, renewed_held, renewed_name, renewed_object, renewed_state}
+use Rattle.lxr_graph.proofs.RowLemmas.{slice_get-mapped}
 use Rattle.lxr_renew.proofs.NameLemmas.{map_has, old_name, old_of_renewed, renewed_serial, same_renewed}
-use Rattle.lxr_renew.proofs.StateLemmas.{IsLeft, map_get, object_renewed, shape_renewed}
+use Rattle.lxr_renew.proofs.StateLemmas.{IsLeft, object_renewed, shape_renewed}
 
 -- the tables with another heap
 abbrev pub with_heads : Tables → (ℕ → ℕ) → Tables
@@ -129,7 +130,7 @@ module _ (threads : ℕ) (t : Tables) (heap : ℕ → ℕ) (blocks : ℕ) (s : S
               in_block = stands.whole.in_block;
             }));
         refs = λ i r' k.
-            let x = map_get (renewed_held ns) o.refs i r' k in
+            let x = slice_get-mapped (renewed_held ns) o.refs i r' k in
             let within = slice_get_within o.refs i x.0 x.1 in
             let among : (v : Name) → x.0 ≡ Some v → IsTrue (has us v) = λ v held. left.referred n v h (i, ap (λ z. slice_get (refs_of z) i) e ∙ x.1 ∙ ap Some held) in
             ap (λ k. heap (first_word k + 1 + i)) p

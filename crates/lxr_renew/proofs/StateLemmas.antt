@@ -11,6 +11,7 @@ use Rattle.lxr_model.specs.References.{occurrences, references, references_from}
 use Rattle.lxr_model.proofs.ReachableLemmas.{reachable_within}
 use Rattle.lxr_model_counting.proofs.DistinctLemmas.{first_has, has_split, later_has}
 use Rattle.lxr_graph.specs.Renewing.{renewed_graph, renewed_held, renewed_name, renewed_object, renewed_state, serial_in}
+use Rattle.lxr_graph.proofs.RowLemmas.{slice_get-mapped}
 use Rattle.lxr_large_model.proofs.SerialLemmas.{serial_some, serial_tells}
 use Rattle.lxr_renew.proofs.NameLemmas.{has_map, map_has, renewed_one, same_held_renewed}
 
@@ -25,14 +26,9 @@ get_map f [] i x e = cc
 get_map f (y ∷ ys) zero x e = let same : y ≡ x = cc in ap (λ z. Some (f z)) same
 get_map f (y ∷ ys) (suc i) x e = get_map f ys i x e
 
-pub map_get : {A B : Type 0} (f : A → B) (xs : List A) (i : ℕ) (y : B) → slice_get (map f xs) i ≡ Some y → (x : A) × (slice_get xs i ≡ Some x) × (y ≡ f x)
-map_get f [] i y e = cc
-map_get f (x ∷ xs) zero y e = (x, refl, (let same : f x ≡ y = cc in sym same))
-map_get f (x ∷ xs) (suc i) y e = map_get f xs i y e
-
 -- what holds a name holds the new name of one
 pub held_get : (ns : List Name) (rs : List (Option Name)) (i : ℕ) (n : Name) → slice_get (map (renewed_held ns) rs) i ≡ Some (Some n) → (v : Name) × (slice_get rs i ≡ Some (Some v)) × (n ≡ renewed_name ns v)
-held_get ns rs i n e = let x = map_get (renewed_held ns) rs i (Some n) e in by_held x.0 x.1 x.2
+held_get ns rs i n e = let x = slice_get-mapped (renewed_held ns) rs i (Some n) e in by_held x.0 x.1 x.2
   where
     by_held : (r : Option Name) → slice_get rs i ≡ Some r → Some n ≡ renewed_held ns r → (v : Name) × (slice_get rs i ≡ Some (Some v)) × (n ≡ renewed_name ns v)
     by_held None there is = absurd (cc)

@@ -6,7 +6,7 @@ ghost use Rattle.lxr_trace.specs.Tracers.{first as first_tracer};
 ghost use Rattle.lxr_layout.specs.Spaces.{AreLimits};
 ghost use Rattle.lxr_rounds.specs.Helpers.{HelpersStandBehind};
 
-use lxr_core::AnyActor;
+use lxr_core::{AnyActor, Lodged};
 use lxr_decrement::Decrementer;
 use lxr_layout::Limits;
 use lxr_trace::Tracer;
@@ -26,7 +26,8 @@ fn add_decrementers(
 {
     for _ in 0..count {
         let decrementer = Decrementer::new(alloc, limits)?;
-        actors.push_reserved(AnyActor::Decrementer(decrementer));
+        let lodged = Lodged::new(alloc, decrementer)?;
+        actors.push_reserved(AnyActor::Decrementer(lodged));
     }
     Ok(())
 }
@@ -44,7 +45,8 @@ fn add_tracers(
 {
     for _ in 0..count {
         let tracer = Tracer::new(alloc, limits)?;
-        actors.push_reserved(AnyActor::Tracer(tracer));
+        let lodged = Lodged::new(alloc, tracer)?;
+        actors.push_reserved(AnyActor::Tracer(lodged));
     }
     Ok(())
 }

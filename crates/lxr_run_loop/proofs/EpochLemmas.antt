@@ -79,7 +79,7 @@ module _ (task : RunTask) (space : Space) (written : Option (List ℕ)) (seen : 
     workers = range.workers;
     decrementers = amid.epochs.actors_rest.workers ∙ ap (λ (o : Options). o.workers) with_options;
     tracers = amid.epochs.actors_rest.tracers ∙ ap (λ (o : Options). o.workers) with_options;
-  }) opens holds
+  }) refl opens holds
 
   module _ (gone : Space) (moved : List AnyActor) (x x' : Option ℕ) (on : GoesOn opened gone started moved x x') where
     -- what it has come to

@@ -8,7 +8,7 @@ ghost use Rattle.lxr_sights.specs.Sights.{Sight};
 ghost use Rattle.lxr_run_loop.specs.Made.{AreMade};
 ghost use Rattle.lxr_run_loop.specs.Opening.{IsOpenedRun};
 
-use lxr_core::AnyActor;
+use lxr_core::{AnyActor, Lodged};
 use lxr_image::Space;
 use lxr_layout::Limits;
 use lxr_mutator::Mutator;
@@ -37,7 +37,8 @@ fn make_mutators(
     for operations in script.into_vec() {
         let thread = actors.len() as u8 + 1;
         let mutator = Mutator::new(alloc, thread, operations, limits, every)?;
-        actors.push_reserved(AnyActor::Mutator(mutator));
+        let lodged = Lodged::new(alloc, mutator)?;
+        actors.push_reserved(AnyActor::Mutator(lodged));
     }
     Ok(actors)
 }

@@ -19,9 +19,8 @@ use lxr_actor::{Actor, step};
 use lxr_base::draw;
 use lxr_core::AnyActor;
 use lxr_graph::Items;
-use lxr_image::Space;
+use lxr_image::{HeapWords, Space};
 use lxr_sights::{Gate, pass_gate};
-use lxr_tables::PlainWords;
 use std::alloc::{AllocError, Global};
 
 /// Room for what stands between two epochs: a `new` of each thread at most that was served or refused, as many pauses, and one.
@@ -74,7 +73,7 @@ pub fn order_epoch<G: Gate>(
 
 /// Replays an epoch on the words of its space, while a trace runs or none does, and records its calls.
 fn replay<G: Gate>(
-    words: &mut PlainWords,
+    words: &mut HeapWords,
     actors: &mut [AnyActor],
     tracing: bool,
     x: &mut u64,
@@ -95,7 +94,7 @@ fn replay<G: Gate>(
 
 /// Makes the steps that draws pick, while some mutator has a next action, and records the calls that these bring into the history.
 fn draw_steps<G: Gate>(
-    words: &mut PlainWords,
+    words: &mut HeapWords,
     actors: &mut [AnyActor],
     tracing: bool,
     x: &mut u64,
@@ -137,7 +136,7 @@ fn count_mutator(actor: &AnyActor) -> usize
 /// One step, of the actor that the next draw picks. The call that it brings into the history, if it brings one, is recorded.
 #[inline(always)]
 fn turn<G: Gate>(
-    words: &mut PlainWords,
+    words: &mut HeapWords,
     actors: &mut [AnyActor],
     tracing: bool,
     x: &mut u64,
@@ -163,7 +162,7 @@ fn turn<G: Gate>(
 /// One step of an actor. The call that it brings into the history, if it brings one, is recorded. Whether it may be drawn again.
 #[inline(always)]
 fn advance<G: Gate>(
-    words: &mut PlainWords,
+    words: &mut HeapWords,
     actor: &mut AnyActor,
     tracing: bool,
     gate: &G,
@@ -194,7 +193,7 @@ pub fn call_gate<G: Gate>(actor: &AnyActor, gate: &G)
 }
 
 /// Finishes the units that are in progress, in order of the actors.
-fn finish_units(words: &mut PlainWords, actors: &mut [AnyActor])
+fn finish_units(words: &mut HeapWords, actors: &mut [AnyActor])
     requires replayable { CanBeReplayed (core_of words.old actors.old) }
     requires finished { AreFinished (mutators_in actors.old) }
     ensures finishing { IsFinishing (core_of words.old actors.old) (core_of words.new actors.new) }
@@ -206,7 +205,7 @@ fn finish_units(words: &mut PlainWords, actors: &mut [AnyActor])
 }
 
 /// Finishes the unit of the actor of a number, where none before it has one in progress.
-fn finish_unit(words: &mut PlainWords, actors: &mut [AnyActor], number: usize)
+fn finish_unit(words: &mut HeapWords, actors: &mut [AnyActor], number: usize)
     requires replayable { CanBeReplayed (core_of words.old actors.old) }
     requires finished { AreFinished (mutators_in actors.old) }
     requires number { number < length actors.old }

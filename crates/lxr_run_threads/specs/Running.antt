@@ -7,21 +7,23 @@ use Rattle.lxr_decrement.specs.declared.phases.DecEnd.TheVariants as dec_end
 use Rattle.lxr_trace.specs.declared.phases.TraceEnd.TheVariants as trace_end
 use Rattle.lxr_decrement.specs.Decrementing.{DecrementerState}
 use Rattle.lxr_trace.specs.Tracing.{TracerState}
-use Rattle.lxr_core_invariant.specs.EpochStates.{Beginning}
+use Rattle.lxr_core_invariant.specs.EpochStates.{Beginning, limits_of}
 use Rattle.lxr_core.specs.declared.actors.AnyActor.{AnyActor}
 use Rattle.lxr_core.specs.Actors.{any_machine, decrementers_in, mutators_in, tracers_in}
 use Rattle.lxr_core.specs.Closing.{AreFinished, AreResting}
 use Rattle.lxr_core.specs.Executions.{HoldsExecution}
 use Rattle.lxr_core.specs.Opening.{Opens, execution_at}
 use Rattle.lxr_shared.specs.Ends.{HaveEnds}
+use Rattle.lxr_shared.specs.Sharing.{KeepsLinesAlways}
 use Rattle.lxr_run_replay.specs.Replaying.{CanBeReplayed}
 use Rattle.lxr_words.specs.declared.Options.{Options}
 
--- An epoch can run: whatever the schedule, each next step fits; all actors rest, and each mutator that is finished already knows its end;
+-- An epoch can run: whatever the schedule, each next step fits and what is known of lines stays; all actors rest, and each mutator that is finished already knows its end;
 -- and behind the mutators stand as many decrementers as there are workers, and as many tracers.
 pub record CanRun (options : Options) (space : Space) (actors : List AnyActor) : Type 0 where
   pub words : 0 < length space.words
   pub fits : CanBeReplayed (core_of space.words actors)
+  pub lines : KeepsLinesAlways space.limits (core_of space.words actors)
   pub resting : AreResting actors
   pub ends : HaveEnds actors
   pub few : length actors ≤ 32
@@ -65,7 +67,7 @@ pub record HaveWorkers (options : Options) (actors : List AnyActor) : Type 0 whe
   pub decrementers : length (decrementers_in actors) ≡ options.workers
   pub tracers : length (tracers_in actors) ≡ options.workers
 
--- where an epoch is opened, and its invariant holds from there on, it can run; so it can be replayed
+-- where an epoch is opened in a space of these limits, and its invariant holds from there on, it can run; so it can be replayed
 abbrev pub OpenedEpochsCanRun : Type 0
 OpenedEpochsCanRun = (options : Options) (b : Beginning) (space opened : Space) (actors started : List AnyActor) → HaveWorkers options actors
-    → Opens space opened actors started → HoldsExecution b (execution_at b opened started) → CanRun options opened started
+    → space.limits ≡ limits_of b → Opens space opened actors started → HoldsExecution b (execution_at b opened started) → CanRun options opened started

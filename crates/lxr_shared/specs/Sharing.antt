@@ -1,8 +1,12 @@
 -- A space and its actors while threads share them.
-use Rattle.std.specs.Prelude.{◌≡◌, ℕ}
+use Rattle.std.specs.Prelude.{◌≡◌, ℕ, List}
 use Rattle.atomic_table.specs.Seated.{TableId}
 use Rattle.lxr_actor.specs.declared.Core.{Core}
 use Rattle.lxr_actor.specs.declared.Event.{Event}
+use Rattle.lxr_actor.specs.Run.{run}
+use Rattle.lxr_layout.specs.declared.limits.Limits.{Limits}
+use Rattle.lxr_image.specs.Settled.{KeepsLines}
+use Rattle.lxr_image.specs.Tables.{tables_in}
 use Rattle.lxr_image.specs.declared.rest.Rest.{Rest}
 use Rattle.lxr_image.specs.declared.space.Space.{Space}
 use Rattle.lxr_image.specs.Parts.{whole}
@@ -25,6 +29,10 @@ pub record Kept : Type 0 where
 -- the epoch of a table and of what is kept beside it
 abbrev pub sharing : Opened AnyActor → Kept → Sharing
 sharing table kept = record { id = table.id; opening = table.opening; space = whole table.opening.words kept.rest }
+
+-- whatever schedule an epoch runs by, from these words and actors on, it keeps what is known of lines
+abbrev pub KeepsLinesAlways : Limits → Core AnyActor → Type 0
+KeepsLinesAlways limits core = (schedule : List Event) → KeepsLines (tables_in limits core.words) (tables_in limits (run any_machine core schedule).words)
 
 -- the event of an offer, or of a place that is taken out, came to a helper; a mutator's pass is left as it is
 abbrev pub ToldOfHelper : AnyActor → Passing AnyActor → Event → Passing AnyActor → Type 0

@@ -29,13 +29,14 @@ pub struct Epoch {
 impl Model for Epoch {
     ghost use Rattle.std.specs.Prelude.{◌≡◌, ◌≤◌, [], length, vec_capacity};
     ghost use Rattle.lxr_image.specs.Parts.{whole};
+    ghost use Rattle.lxr_image.specs.Settled.{KnowsWords};
     ghost use Rattle.lxr_shared.specs.Sharing.{Sharing};
 
     ghost Value = { Sharing };
 
     ghost view = { λ e. record { id = e.passes.id; opening = e.passes.opening; space = whole e.passes.opening.words e.rest } };
 
-    ghost invariant = { λ e. (e.spare.items ≡ []) × (length e.passes.opening.actors ≤ vec_capacity e.spare) };
+    ghost invariant = { λ e. (e.spare.items ≡ []) × (length e.passes.opening.actors ≤ vec_capacity e.spare) × KnowsWords e.rest.settled e.passes.opening.words };
 }
 
 impl Epoch {

@@ -77,8 +77,8 @@ impl Turning<AnyActor> for ByKind {
     fn do_unit(actor: &mut AnyActor, seated: &mut Seated<AnyActor>, epoch: &PassTable<AnyActor>) {
         let table = KindTable { epoch };
         match actor {
-            AnyActor::Tracer(tracer) => do_unit(tracer, seated, &table),
-            AnyActor::Decrementer(decrementer) => do_unit(decrementer, seated, &table),
+            AnyActor::Tracer(tracer) => do_unit(&mut **tracer, seated, &table),
+            AnyActor::Decrementer(decrementer) => do_unit(&mut **decrementer, seated, &table),
             AnyActor::Mutator(mutator) => mutator.do_unit(seated, &table),
         }
     }

@@ -1,5 +1,6 @@
 //! An epoch in two parts: the table, which threads share, and what else there is, which one of them keeps.
 ghost use Rattle.std.specs.Prelude.{◌≡◌, ◌≤◌, length};
+ghost use Rattle.lxr_image.specs.Settled.{KnowsWords};
 ghost use Rattle.lxr_shared.specs.Sharing.{sharing};
 
 use crate::epoch::Epoch;
@@ -32,6 +33,7 @@ impl Epoch {
     pub fn into_parts(self) -> (PassTable<AnyActor>, Aside)
         ensures parts { sharing result.0 result.1 ≡ self }
         ensures room { length result.0.opening.actors ≤ result.1.room }
+        ensures knows { KnowsWords result.1.rest.settled result.0.opening.words }
     {
         let Epoch {
             passes: table,
@@ -43,7 +45,8 @@ impl Epoch {
 
     /// Makes an epoch of its parts again.
     pub fn from_parts(table: PassTable<AnyActor>, aside: Aside) -> Epoch
-        requires { length table.opening.actors ≤ aside.room }
+        requires room { length table.opening.actors ≤ aside.room }
+        requires knows { KnowsWords aside.rest.settled table.opening.words }
         ensures { result ≡ sharing table aside }
     {
         let Aside { rest, spare } = aside;

@@ -3,11 +3,12 @@ use Rattle.std.proofs.Common.{◌≡◌, ℕ, zero, suc, refl, sym, ap, subst, �
 use Rattle.std.specs.Prelude.{Some, [], ◌∷◌, slice_get}
 use Rattle.std.proofs.lemmas.List.{length-map}
 use Rattle.std.proofs.lemmas.Option.{slice_get_within}
+use Rattle.lxr_layout.specs.declared.limits.Limits.{Limits}
 use Rattle.lxr_layout.specs.declared.Place.{Place}
 use Rattle.lxr_image.specs.declared.space.Space.{Space}
 use Rattle.lxr_actor.specs.declared.Core.{Core}
 use Rattle.lxr_actor.specs.Run.{AlwaysFits, core_of, run}
-use Rattle.lxr_core_invariant.specs.EpochStates.{Beginning}
+use Rattle.lxr_core_invariant.specs.EpochStates.{Beginning, limits_of}
 use Rattle.lxr_core.specs.declared.actors.AnyActor.{AnyActor}
 use Rattle.lxr_core.specs.declared.actors.AnyActor.TheVariants as any
 use Rattle.lxr_core.specs.Actors.{any_machine, decrementers_in, mutators_in, script_of, tracers_in}
@@ -21,7 +22,8 @@ use Rattle.lxr_image.specs.Registers.{row_in}
 use Rattle.lxr_core.specs.Starting.{started_again}
 use Rattle.lxr_core.proofs.ExecutionLemmas.{epoch_invariant_holds}
 use Rattle.lxr_core.proofs.LastingLemmas.{names_opened}
-use Rattle.lxr_shared.specs.Sharing.{Sharing}
+use Rattle.lxr_core.proofs.LineLemmas.{epoch_keeps_lines}
+use Rattle.lxr_shared.specs.Sharing.{KeepsLinesAlways, Sharing}
 use Rattle.lxr_shared_passes.specs.Passing.{Every, IsEnd, Passing}
 use Rattle.lxr_shared.proofs.StartedLemmas.{started_helpers}
 use Rattle.lxr_core.proofs.ScriptLemmas.{opened_script, unfilled_mutators}
@@ -50,6 +52,12 @@ is_running b before opened resting started epoch begins opens holds opening spac
   core = sym opening;
   space_is = subst (λ (s : Space). s ≡ record b.space { words = s.words }) (sym space) (opens.space.rest ∙ ap (λ (s : Space). record s { words = opened.words }) (sym begins.space_is));
 }
+
+-- no schedule of it moves a line
+pub keeps_lines : (b : Beginning) (epoch : Sharing) → IsRunning b epoch → KeepsLinesAlways epoch.space.limits epoch.opening
+keeps_lines b epoch running =
+    subst (λ (l : Limits). KeepsLinesAlways l epoch.opening) (sym (ap (λ (s : Space). s.limits) running.space_is))
+    (subst (KeepsLinesAlways (limits_of b)) running.core (epoch_keeps_lines b running.opened running.holds))
 
 -- mutators that begin again show what they did
 shown_again : (resting started : List AnyActor) → length started ≡ length resting → ((i : ℕ) (a : AnyActor) → slice_get resting i ≡ Some a → (registers : List Place) × (slice_get started i ≡ Some (started_again a registers)))

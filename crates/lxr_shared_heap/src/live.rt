@@ -3,6 +3,7 @@ ghost use Rattle.std.specs.Prelude.{◌≡◌, ◌<◌, ◌≤◌, [], IfErr, If
 ghost use Rattle.std.specs.Arc.{arc_value};
 ghost use Rattle.lxr_core_invariant.specs.EpochStates.{Beginning};
 ghost use Rattle.lxr_actor.specs.Run.{AlwaysFits, core_of};
+ghost use Rattle.lxr_image.specs.Settled.{KnowsWords};
 ghost use Rattle.lxr_core.specs.Actors.{any_machine};
 ghost use Rattle.lxr_core.specs.Closing.{AreResting};
 ghost use Rattle.lxr_core.specs.Collecting.{actor_given_up};
@@ -57,6 +58,7 @@ pub(crate) struct Unclosed {
 impl Model for Live {
     ghost use Rattle.std.specs.Prelude.{◌≡◌, ◌≤◌, [], length, vec_capacity};
     ghost use Rattle.std.specs.Arc.{arc_value};
+    ghost use Rattle.lxr_image.specs.Settled.{KnowsWords};
     ghost use Rattle.lxr_shared.specs.Sharing.{sharing};
     ghost use Rattle.lxr_shared_heap.specs.Stations.{Lived, table_of};
 
@@ -64,7 +66,7 @@ impl Model for Live {
 
     ghost view = { λ l. record { epoch = sharing (table_of (arc_value l.shared)) l.aside; homes = (arc_value l.shared).homes } };
 
-    ghost invariant = { λ l. (l.passes.items ≡ []) × (length (arc_value l.shared).opening.actors ≤ vec_capacity l.passes) × (length (arc_value l.shared).opening.actors ≤ l.aside.room) };
+    ghost invariant = { λ l. (l.passes.items ≡ []) × (length (arc_value l.shared).opening.actors ≤ vec_capacity l.passes) × (length (arc_value l.shared).opening.actors ≤ l.aside.room) × KnowsWords l.aside.rest.settled (arc_value l.shared).opening.words };
 }
 
 impl Live {
@@ -149,6 +151,7 @@ fn share(alloc: Global, space: Space, actors: Vec<AnyActor>) -> Result<Live, All
 /// Closes an epoch of whose passes all are in hand, and whose last share is.
 fn finish(last: Shared, aside: Aside, passes: Vec<Pass>) -> (Space, Vec<AnyActor>)
     requires room { length last.opening.actors ≤ aside.room }
+    requires knows { KnowsWords aside.rest.settled last.opening.words }
     requires all { AreAll last passes.items }
     requires running { (b : Beginning) × IsRunning b (sharing (table_of last) aside) }
     ensures closes { ClosesEach (sharing (table_of last) aside) passes.items result.0 result.1.items }

@@ -10,7 +10,7 @@ ghost use Rattle.lxr_shared_heap.specs.Settings.{AreSettings, run_of};
 ghost use Rattle.lxr_shared_heap.specs.Telling.{EndByNewest};
 
 use crate::settings::Settings;
-use lxr_core::AnyActor;
+use lxr_core::{AnyActor, Lodged};
 use lxr_image::Space;
 use lxr_layout::Limits;
 use lxr_mutator::Mutator;
@@ -35,7 +35,8 @@ fn new_mutators(
     for number in 0..limits.threads {
         let mutator = Mutator::live(alloc, number + 1, limits, every, names)?;
         mutator.operation();
-        actors.push_reserved(AnyActor::Mutator(mutator));
+        let lodged = Lodged::new(alloc, mutator)?;
+        actors.push_reserved(AnyActor::Mutator(lodged));
     }
     Ok(actors)
 }

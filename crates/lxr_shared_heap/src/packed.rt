@@ -76,11 +76,14 @@ pub(crate) struct Packed {
 impl Model for Packed {
     ghost use Rattle.lxr_image.specs.declared.space.Space.{Space};
     ghost use Rattle.lxr_image.specs.Parts.{whole};
+    ghost use Rattle.lxr_image.specs.Settled.{KnowsWords};
     ghost use Rattle.lxr_tables.specs.Words.{words_in};
 
     ghost Value = { Space };
 
     ghost view = { λ p. whole (words_in p.words) p.rest };
+
+    ghost invariant = { λ p. KnowsWords p.rest.settled (words_in p.words) };
 }
 
 impl Packed {

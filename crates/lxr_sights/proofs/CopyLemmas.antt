@@ -13,7 +13,7 @@ use Rattle.lxr_image.specs.Opened.{HasReportRoom, IsOpened, opening_place}
 use Rattle.lxr_image.specs.Registers.{Registers}
 use Rattle.lxr_image.specs.Spaces.{IsSpace}
 use Rattle.lxr_image.specs.Tables.{tables_in}
-use Rattle.lxr_image.proofs.RegisterLemmas.{length-opening}
+use Rattle.lxr_graph.proofs.OpeningLemmas.{length-opening}
 use Rattle.lxr_sights.specs.Copies.{AreAlike, AreRegistersFor, Every, FitsReportRoom, FitsRoom, HasReportRoomFor, HasRoomFor, IsSpare, RoomySpacesFit}
 
 -- ---- rooms

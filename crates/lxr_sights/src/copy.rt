@@ -8,9 +8,9 @@ ghost use Rattle.lxr_sights.specs.Sights.{sight_of};
 
 use lxr_base::Listed;
 use lxr_graph::Report;
-use lxr_image::{RegisterFile, Space};
+use lxr_image::{HeapWords, RegisterFile, Space};
 use lxr_layout::{GRANULES_IN_BLOCK, Limits, REGISTERS, regions};
-use lxr_tables::{PlainWords, Words};
+use lxr_tables::Words;
 
 /// Whether a report fits the room of that of an opened space of so many granules.
 fn report_fits(report: &Report, granules: usize) -> bool
@@ -48,7 +48,7 @@ pub(crate) fn fits(space: &Space, limits: Limits) -> bool
 }
 
 /// Writes the words of one space over those of another.
-fn copy_words(to: &mut PlainWords, from: &PlainWords)
+fn copy_words(to: &mut HeapWords, from: &HeapWords)
     requires { length to.old ≡ length from.now }
     ensures { to.new ≡ from.now }
 {

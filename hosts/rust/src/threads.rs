@@ -79,7 +79,7 @@ pub struct Settings {
     pub pace: Pace,
     /// Blocks that a trace evacuates at most, 0 to an eighth of all: the pause that ends it is the longer for them.
     pub evacuate: u32,
-    /// Registers of each mutator, 16 to 256. What a pause takes grows with those in use alone.
+    /// Registers of each mutator, 16 to 256; 0 for 16. What a pause takes grows with those in use alone.
     pub registers: u32,
 }
 

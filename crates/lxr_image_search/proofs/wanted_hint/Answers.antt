@@ -20,8 +20,3 @@ returns-in-ToScan c clear k from below =
     let t = tables_of c.args.space.now in
     subst (λ w. is_wanted t w k ≡ false) (sym c.in-ToScan.is)
     (and_left (t.grays k) (not (t.marks k)) (zero_word t.grays c.args.at c.gray_word.result c.gray_word.ensures clear k from below))
-
-pub returns-in-Handled : goal.returns-in-Handled
-returns-in-Handled c clear k from below =
-    let t = tables_of c.args.space.now in
-    subst (λ w. is_wanted t w k ≡ false) (sym c.in-Handled.is) (zero_word t.dones c.args.at c.done_word.result c.done_word.ensures clear k from below)

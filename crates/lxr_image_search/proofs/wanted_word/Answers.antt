@@ -32,9 +32,3 @@ returns-in-Object c i within =
     let t = tables_of c.args.space.now in
     subst (λ w. IsBitSet c.start_word.result i ↔ IsTrue (is_wanted t w (64 * c.args.at + i))) (sym c.in-Object.is)
     (told_by_bit (t.starts (64 * c.args.at + i)) c.start_word.result i (c.start_word.ensures i within))
-
-pub returns-in-Handled : goal.returns-in-Handled
-returns-in-Handled c i within =
-    let t = tables_of c.args.space.now in
-    subst (λ w. IsBitSet c.done_word.result i ↔ IsTrue (is_wanted t w (64 * c.args.at + i))) (sym c.in-Handled.is)
-    (told_by_bit (t.dones (64 * c.args.at + i)) c.done_word.result i (c.done_word.ensures i within))

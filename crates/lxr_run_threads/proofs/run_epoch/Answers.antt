@@ -1,8 +1,10 @@
 use Rattle.std.proofs.Common.{◌≡◌, All, length, arith, sym, subst, ap, ◌∙◌}
 use Rattle.lxr_actor.specs.Run.{core_of}
+use Rattle.lxr_image.specs.declared.space.Space.{Space}
 use Rattle.lxr_barrier.proofs.ViewLemmas.{all_to}
 use Rattle.lxr_core.specs.declared.actors.AnyActor.{AnyActor}
 use Rattle.lxr_shared_passes.specs.Passing.{Opened, Passing}
+use Rattle.lxr_shared.specs.Sharing.{KeepsLinesAlways}
 use Rattle.lxr_run_replay.specs.Replaying.{CanBeReplayed}
 use Rattle.lxr_run_threads.specs.Working.{HasPassed, IsDoneOf, IsPassOf}
 use Rattle.lxr_run_threads.proofs.GateLemmas.{closed_passed, opened_passed}
@@ -44,6 +46,12 @@ close_shared-requires-clause-order g c =
     let ok = c.in_ok-epoch.passes.ok in
     let count : c.in_ok-epoch.passes.len ≡ length c.in_ok-epoch.passes.items = omega arith in
     closed_numbers _ _ c.in_ok-epoch.epoch _ c.in_ok-passes.passes.items c.in_ok-epoch.passes.len opened count (c.in_ok-passes.ensures.numbers ∙ opened_numbers _ _ _ _ _ opened count)
+
+pub close_shared-requires-clause-lines : goal.close_shared-requires-clause-lines
+close_shared-requires-clause-lines g c =
+    let opened = c.in_ok-epoch.ensures.epoch in
+    subst (KeepsLinesAlways c.in_ok-epoch.epoch.space.limits) (sym opened.0)
+    (subst (λ (s : Space). KeepsLinesAlways s.limits (core_of c.args.space.words c.args.actors.items)) (sym opened.1) c.requires.lines)
 
 pub returns-clause-run : goal.returns-clause-run
 returns-clause-run g c =

@@ -6,9 +6,9 @@ use Rattle.lxr_blocks.proofs.sweeping.sweep_lines.Given as goal
 abbrev pub invariant-loop-block : goal.invariant-loop-block
 invariant-loop-block l = record {
   space : IsSpace l.space;
-  turns : Turns l.initial.space l.space (with_states_by_lines (tables_of l.initial.space) l.at);
-  within : l.at ≤ l.initial.space.limits.blocks;
+  turns : Turns l.initial.space l.space (with_states_by_lines (tables_of l.initial.space) l.block);
+  within : l.block ≤ l.initial.space.limits.blocks;
 }
 
 abbrev pub decreases-loop-block : goal.decreases-loop-block
-decreases-loop-block l = l.initial.space.limits.blocks - l.at
+decreases-loop-block l = l.initial.space.limits.blocks - l.block

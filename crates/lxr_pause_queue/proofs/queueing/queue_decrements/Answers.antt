@@ -1,4 +1,4 @@
-use Rattle.std.proofs.Common.{◌+◌, ◌*◌, ap, arith, length}
+use Rattle.std.proofs.Common.{◌+◌, ◌*◌, ap, arith}
 use Rattle.lxr_image.specs.Registers.{holding}
 use Rattle.lxr_pause_queue.proofs.HoldsLemmas.{queues}
 use Rattle.lxr_pause_queue.proofs.RaisedLemmas.{entries_in_heap, few_held}

@@ -14,7 +14,7 @@ push_reserved-requires c = let room = c.requires.room in let same = c.loop.invar
 
 pub loop-preserved : goal.loop-preserved
 loop-preserved c = record {
-  added = one_behind any.Tracer c.loop.counter _ (first c.args.limits) c.in_ok-tracer.tracer c.args.actors.now.items c.loop.actors.items c.push_reserved.new.self.items c.loop.invariant.added c.in_ok-tracer.ensures refl c.push_reserved.ensures.items;
+  added = one_behind any.Tracer c.loop.counter _ (first c.args.limits) c.in_ok-lodged.lodged c.args.actors.now.items c.loop.actors.items c.push_reserved.new.self.items c.loop.invariant.added (c.in_ok-lodged.ensures ∙ c.in_ok-tracer.ensures) refl c.push_reserved.ensures.items;
   many = let len = c.push_reserved.ensures.len in let many = c.loop.invariant.many in omega arith;
   room = c.push_reserved.ensures.capacity ∙ c.loop.invariant.room;
 }

@@ -37,8 +37,8 @@ loop-operations-preserved c =
       taken = (
         before.0 ++ operations ∷ [],
         split ∙ sym (append_assoc before.0 (operations ∷ []) rest),
-        made_pushed c.args.limits c.args.every c.args.script.items before.0 rest operations c.loop-operations.actors.items c.push_reserved.new.self.items c.in_ok-mutator.mutator split c.requires.script
-            c.requires.limits c.requires.threads c.requires.every before.2 (c.in_ok-mutator.ensures ∙ ap (λ n. first (n + 1) operations.items c.args.limits c.args.every) many) c.push_reserved.ensures.items,
+        made_pushed c.args.limits c.args.every c.args.script.items before.0 rest operations c.loop-operations.actors.items c.push_reserved.new.self.items c.in_ok-lodged.lodged split c.requires.script
+            c.requires.limits c.requires.threads c.requires.every before.2 (c.in_ok-lodged.ensures ∙ c.in_ok-mutator.ensures ∙ ap (λ n. first (n + 1) operations.items c.args.limits c.args.every) many) c.push_reserved.ensures.items,
       );
       room = omega (arith, c.in-Some.ensures.steps.1);
       count = search rules;

@@ -6,10 +6,10 @@ use Rattle.lxr_core.specs.Collecting.{actor_given_up}
 use Rattle.lxr_core.specs.Actors.{any_machine, mutators_in}
 use Rattle.lxr_core.specs.Closing.{Closes, IsPauseExplained, IsPauseWanted, MayClose}
 use Rattle.lxr_core.specs.Executions.{tell_all}
-use Rattle.lxr_shared.specs.Sharing.{Sharing, sharing}
+use Rattle.lxr_shared.specs.Sharing.{KeepsLinesAlways, Sharing, sharing}
 use Rattle.lxr_shared_passes.specs.Passing.{IsEnd, Passing, dealt}
 use Rattle.lxr_shared_heap.specs.Stations.{table_of}
-use Rattle.lxr_shared_heap.proofs.EpochLemmas.{closed_many, may_close}
+use Rattle.lxr_shared_heap.proofs.EpochLemmas.{closed_many, keeps_lines, may_close}
 use Rattle.lxr_shared_heap.specs.Wanting.{IsPauseWanted as WantedBy}
 use Rattle.lxr_shared_heap.proofs.WantingLemmas.{wanted_is}
 use Rattle.lxr_shared_heap.proofs.HomeLemmas.{all_of_epoch, all_rest, same_numbers}
@@ -26,6 +26,13 @@ close_shared-space-requires-clause-order c =
     let is : c.from_parts-epoch.result ≡ sharing (table_of c.args.last) c.args.aside = c.from_parts-epoch.ensures ∙ ap (λ t. sharing t c.args.aside) c.into_table.ensures in
     subst (λ (e : Sharing). map (λ (p : Passing AnyActor). p.number) c.args.passes.items ≡ map (λ (p : Passing AnyActor). p.number) (dealt e.id e.opening 0 e.opening.actors)) (sym is)
     (same_numbers (table_of c.args.last) 0 c.args.passes.items c.args.last.opening.actors c.requires.all.many c.requires.all.each)
+
+pub close_shared-space-requires-clause-lines : goal.close_shared-space-requires-clause-lines
+close_shared-space-requires-clause-lines c =
+    let (b, running) = c.requires.running in
+    let whole : Sharing = sharing (table_of c.args.last) c.args.aside in
+    let is : c.from_parts-epoch.result ≡ whole = c.from_parts-epoch.ensures ∙ ap (λ t. sharing t c.args.aside) c.into_table.ensures in
+    subst (λ (e : Sharing). KeepsLinesAlways e.space.limits e.opening) (sym is) (keeps_lines b whole running)
 
 pub close_epoch-requires : goal.close_epoch-requires
 close_epoch-requires c =

@@ -1,4 +1,5 @@
-use Rattle.std.proofs.Common.{◌≡◌, ◌∙◌, ◌+◌, arith, ap, subst}
+use Rattle.std.proofs.Common.{◌≡◌, ◌∙◌, ◌+◌, ◌++◌, ◌∷◌, [], arith, ap, subst}
+use Rattle.lxr_core.specs.declared.actors.AnyActor.TheVariants as any
 use Rattle.lxr_shared_heap.specs.Making.{AreNew}
 use Rattle.lxr_shared_heap.proofs.MakingLemmas.{new_pushed, none_new}
 use Rattle.lxr_shared_heap.proofs.making.new_mutators.Goals as goal
@@ -13,7 +14,7 @@ loop-number-init c = record {
 pub loop-number-preserved : goal.loop-number-preserved
 loop-number-preserved c = record {
   new = new_pushed c.args.limits c.args.every c.args.names c.loop-number.number c.loop-number.actors.items c.push_reserved.new.self.items c.in_ok-mutator.mutator c.loop-number.invariant.new c.in_ok-mutator.ensures c.operation.ensures.sound
-      c.push_reserved.ensures.items;
+      (subst (λ m. c.push_reserved.new.self.items ≡ c.loop-number.actors.items ++ any.Mutator m ∷ []) c.in_ok-lodged.ensures c.push_reserved.ensures.items);
   many = c.push_reserved.ensures.len ∙ ap (λ n. n + 1) c.loop-number.invariant.many;
   room = let room = c.loop-number.invariant.room in let same = c.push_reserved.ensures.capacity in omega arith;
 }

@@ -1,17 +1,6 @@
-use Rattle.std.proofs.Common.{◌≡◌, ◌+◌, ◌/◌, ◌<◌, subst, sym, refl, length, drop}
-use Rattle.std.specs.Prelude.{slice_set}
-use Rattle.lxr_tables.specs.Entries.{OthersStay, table}
-use Rattle.lxr_image.proofs.TableLaws.{bit_within, bit_written}
+use Rattle.std.proofs.Common.{◌∙◌, sym}
+use Rattle.lxr_image.proofs.WriteLemmas.{size_is}
 use Rattle.lxr_image.proofs.space.Space.clear_bit_in.Goals as goal
 
-pub clear_bit-requires : goal.clear_bit-requires
-clear_bit-requires c = subst (λ b. b + c.args.index / 64 < length c.args.self.now.words) (sym c.begin-base.ensures)
-    (bit_within c.args.self.now.limits c.args.self.now.words c.args.table c.args.index c.requires.space.size c.requires.index)
-
-pub returns : goal.returns
-returns c = record {
-  tables = bit_written c.args.self.now.limits c.args.self.now.words c.clear_bit.new.words c.args.table c.args.index 0 c.requires.space.size c.requires.index
-      (subst (λ b. table 1 64 (drop b c.clear_bit.new.words) ≡ slice_set (table 1 64 (drop b c.args.self.now.words)) c.args.index 0) c.begin-base.ensures c.clear_bit.ensures.table)
-      (subst (λ b. OthersStay c.args.self.now.words c.clear_bit.new.words (b + c.args.index / 64)) c.begin-base.ensures c.clear_bit.ensures.others);
-  rest = refl;
-}
+pub clear_bit-requires-clause-size : goal.clear_bit-requires-clause-size
+clear_bit-requires-clause-size c = sym (size_is c.args.self.now.limits c.args.self.now.words) ∙ c.requires.space.size

@@ -1,4 +1,4 @@
-use Rattle.std.proofs.Common.{◌*◌, ap, refl, replicate, ◌∙◌}
+use Rattle.std.proofs.Common.{◌*◌, ap, refl, ◌∙◌}
 use Rattle.lxr_layout.specs.Spaces.{all_regions, region_begin}
 use Rattle.lxr_image.specs.Tables.{tables_in}
 use Rattle.lxr_image.proofs.OpenLemmas.{tables_cleared}
@@ -7,7 +7,7 @@ use Rattle.lxr_image.proofs.space.Space.with_room.Goals as goal
 pub returns : goal.returns
 returns c = record {
   limits = refl;
-  tables = ap (tables_in c.args.limits) (c.in_ok-new.ensures ∙ ap (λ n. replicate n 0) (ap (λ r. r.total) c.regions.ensures)) ∙ tables_cleared c.args.limits (region_begin c.args.limits all_regions);
+  tables = ap (tables_in c.args.limits) c.in_ok-new.ensures ∙ tables_cleared c.args.limits (region_begin c.args.limits all_regions);
   registers = c.in_ok-open.ensures.items;
   deferred = c.in_ok-open-2.ensures.items;
   logged = c.in_ok-with_room.ensures.empty;

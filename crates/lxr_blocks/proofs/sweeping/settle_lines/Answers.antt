@@ -1,0 +1,61 @@
+use Rattle.std.proofs.Common.{◌≡◌, ◌+◌, ap, arith, inr, refl, subst, sym}
+use Rattle.lxr_image.specs.Settled.{AreCountedIn}
+use Rattle.lxr_image.specs.Spaces.{Turns, tables_of}
+use Rattle.lxr_image.proofs.SpaceLemmas.{still_space}
+use Rattle.lxr_blocks.specs.States.{with_state_by_lines}
+use Rattle.lxr_blocks.specs.Swept.{with_states_by_lines}
+use Rattle.lxr_blocks.proofs.SweptLemmas.{more_swept, none_swept, passed_swept, sound_still}
+use Rattle.lxr_blocks.proofs.sweeping.settle_lines.Goals as goal
+
+pub loop-block-init : goal.loop-block-init
+loop-block-init c =
+    let s = c.args.space.now in let t = tables_of s in
+    let next = c.next_noted-block.ensures in
+    record {
+      space = c.requires.space;
+      turns = record {
+        tables = passed_swept t t 0 c.next_noted-block.result (none_swept t) (omega arith) (λ k from within. inr (next.passed k (omega arith) within)) (λ k h. c.requires.free k (let end = next.range.1 in omega (arith, h, end)));
+        rest = refl;
+      };
+      within = next.range.1;
+    }
+
+pub settle_block-requires-clause-free : goal.settle_block-requires-clause-free
+settle_block-requires-clause-free c =
+    let before = c.loop-block.invariant in let below = c.loop-block-test.true in
+    let same = ap (λ z. z.limits.blocks) before.turns.rest in
+    sound_still (tables_of c.args.space.now) (tables_of c.loop-block.space) c.loop-block.block before.turns.tables (c.requires.free c.loop-block.block (omega (arith, below, same)))
+
+pub settle_block-requires-clause-counted : goal.settle_block-requires-clause-counted
+settle_block-requires-clause-counted c = subst (λ u. AreCountedIn u c.loop-block.block) (sym c.loop-block.invariant.turns.tables) (λ g _. c.requires.counted g)
+
+pub next_noted-block-requires-in-loop-block : goal.next_noted-block-requires-in-loop-block
+next_noted-block-requires-in-loop-block c =
+    let turned = ap (λ z. z.limits.blocks) c.settle_block.ensures.rest in let below = c.loop-block-test.true in omega (arith, turned, below)
+
+pub loop-block-preserved : goal.loop-block-preserved
+loop-block-preserved c =
+    let s = c.args.space.now in let t = tables_of s in
+    let before = c.loop-block.invariant in
+    let block = c.loop-block.block in
+    let swept = c.settle_block.new.space in
+    let one : Turns s swept (with_states_by_lines t (block + 1)) = more_swept s c.loop-block.space swept block before.turns c.settle_block.ensures in
+    let last : swept.limits.blocks ≡ s.limits.blocks = ap (λ z. z.limits.blocks) one.rest in
+    let next = c.next_noted-block-in-loop-block.ensures in
+    let end = next.range.1 in
+    record {
+      space = still_space c.loop-block.space swept (with_state_by_lines (tables_of c.loop-block.space) block) before.space c.settle_block.ensures refl;
+      turns = record {
+        tables = passed_swept t (tables_of swept) (block + 1) c.next_noted-block-in-loop-block.result one.tables next.range.0 (λ k from within. inr (next.passed k from within)) (λ k h. c.requires.free k (omega (arith, h, end, last)));
+        rest = one.rest;
+      };
+      within = omega (arith, end, last);
+    }
+
+pub returns-clause-states : goal.returns-clause-states
+returns-clause-states c =
+    let before = c.loop-block.invariant in
+    let within = before.within in let past = c.loop-block-test.false in
+    let same = ap (λ z. z.limits.blocks) before.turns.rest in
+    let end : c.loop-block.block ≡ c.args.space.now.limits.blocks = omega (arith, within, past, same) in
+    subst (λ n. Turns c.args.space.now c.loop-block.space (with_states_by_lines (tables_of c.args.space.now) n)) end before.turns
