@@ -3,9 +3,10 @@ use Rattle.std.proofs.Common.{◌≡◌, ◌≢◌, ℕ, ◌+◌, ◌-◌, ◌*�
 use Rattle.std.specs.Prelude.{◌&&◌, IsTrue, not}
 use Rattle.std.proofs.lemmas.Bool.Decides.{leb_tells}
 use Rattle.lxr_layout.specs.declared.TheConstants.{GRANULES_IN_LINE}
+use Rattle.lxr_image.specs.Settled.{IsFreeLine}
 use Rattle.lxr_image.specs.Tables.{Tables}
 use Rattle.lxr_blocks.specs.Lines.{are_zero, is_free}
-use Rattle.lxr_blocks.specs.Kept.{FreeLineIsTold, IsFreeLine, KeptLineIsTaken}
+use Rattle.lxr_blocks.specs.Kept.{FreeLineIsTold, KeptLineIsTaken}
 use Rattle.lxr_blocks.proofs.LineLemmas.{all_zero, zero_each, zero_ends}
 
 -- ---- free lines

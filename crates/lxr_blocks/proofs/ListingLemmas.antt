@@ -1,40 +1,26 @@
--- Runs that are found one after another are the runs of a block, and what is written entry after entry is a list.
-use Rattle.std.proofs.Common.{◌≡◌, ℕ, zero, suc, ◌+◌, ◌-◌, ◌*◌, ◌<◌, ◌≤◌, refl, sym, ap, subst, ◌∙◌, inl, inr, ◌⊎◌, arith, add-one, Bool, true, false, List, [], ◌∷◌, ◌++◌, length, length-append, zero-add}
-use Rattle.std.proofs.lemmas.List.{append-nil, append_assoc, map-append}
-use Rattle.std.proofs.Math.ListN.{get_or-append}
-use Rattle.std.proofs.Math.Seq.{get_or-append_right}
-use Rattle.std.specs.Prelude.{◌≢◌, ◌&&◌, map, nat_le, nat_lt, not, slice_index, if◌then◌else◌}
-use Rattle.std.proofs.lemmas.Bool.Decides.{eqb_tells, leb_tells, nat_tests}
+-- Runs that are found one after another are the runs of a block, and what is listed block after block is a list.
+use Rattle.std.proofs.Common.{◌≡◌, ℕ, zero, suc, ◌+◌, ◌-◌, ◌<◌, ◌≤◌, refl, sym, ap, subst, ◌∙◌, inl, inr, arith, add-one, Bool, true, false, List, [], ◌∷◌, ◌++◌, length, length-append, take, zero-add}
+use Rattle.std.proofs.lemmas.List.{append-nil, append_assoc, length-map, map-append}
+use Rattle.std.specs.Prelude.{◌≢◌, ◌&&◌, map, not, if◌then◌else◌}
+use Rattle.std.proofs.lemmas.Bool.Decides.{eqb_tells}
 use Rattle.lxr_layout.specs.declared.TheConstants.{FREE_BLOCK_COUNT, FREE_BLOCK_CURSOR, LINES_IN_BLOCK, RUN_COUNT, RUN_CURSOR}
 use Rattle.lxr_layout.specs.declared.runs.Run.{Run}
 use Rattle.lxr_layout.specs.Runs.{word_of_run}
 use Rattle.lxr_image.specs.declared.space.Space.{Space}
-use Rattle.lxr_image.specs.Tables.{Tables, changed}
+use Rattle.lxr_image.specs.Runs.{begins_run, bits_of, free_from, runs_below, with_runs, words_of_runs}
+use Rattle.lxr_image.specs.Tables.{Tables, changed, written}
 use Rattle.lxr_image.specs.Spaces.{Turns, tables_of}
+use Rattle.lxr_image.proofs.RunLemmas.{begins_no_more, begins_none, few_runs, first_listed, none_begin, one_begins}
 use Rattle.lxr_image.proofs.SpaceLemmas.{turns_then}
+use Rattle.lxr_image.proofs.WrittenLemmas.{written_more, written_none, written_one}
 use Rattle.lxr_blocks.specs.declared.states.BlockState.{BlockState}
 use Rattle.lxr_blocks.specs.declared.states.BlockState.TheVariants.{Free, Partly, Whole, Chosen, World}
 use Rattle.lxr_blocks.specs.States.{AreFreeBlocks, state_in}
-use Rattle.lxr_blocks.specs.Lines.{IsFirstLine, IsNextRun, begins_run, free_from, runs_below}
-use Rattle.lxr_blocks.specs.Listing.{block_frees, block_runs, joined, lists_block, lists_runs, numbers_from, run_words, with_frees, with_listed, with_lists, with_runs, written}
+use Rattle.lxr_blocks.specs.Lines.{IsFirstLine, IsNextRun}
+use Rattle.lxr_blocks.specs.Masks.{AreEdges}
+use Rattle.lxr_blocks.specs.Listing.{block_frees, block_runs, joined, lists_block, lists_runs, numbers_from, run_words, with_frees, with_listed, with_lists}
 
 -- ---- runs of a block
-
--- lines at which no run begins add none
-none_begin : (free : ℕ → Bool) (b from k : ℕ) → from ≤ k → ((i : ℕ) → from ≤ i → i < k → begins_run free i ≡ false) → runs_below free b k ≡ runs_below free b from
-unfolding runs_below
-none_begin free b from zero after none = let is : from ≡ 0 = omega arith in ap (runs_below free b) (sym is)
-none_begin free b from (suc k) after none = elim (eqb_tells from (suc k)) [
-  | inl e ↦ ap (runs_below free b) (sym e.1)
-  | inr e ↦ let ne = e.1 in
-      ap (λ x. runs_below free b k ++ (if x then (record { block = b; line = k; lines = free_from free k (LINES_IN_BLOCK - k) } ∷ []) else [])) (none k (omega arith) (omega arith))
-      ∙ append-nil (runs_below free b k) ∙ none_begin free b from k (omega arith) (λ i h below. none i h (omega (arith, below)))
-]
-
--- a line at which a run begins adds it
-one_begins : (free : ℕ → Bool) (b k : ℕ) → begins_run free k ≡ true → runs_below free b (suc k) ≡ runs_below free b k ++ (record { block = b; line = k; lines = free_from free k (LINES_IN_BLOCK - k) } ∷ [])
-unfolding runs_below
-one_begins free b k begins = ap (λ x. runs_below free b k ++ (if x then (record { block = b; line = k; lines = free_from free k (LINES_IN_BLOCK - k) } ∷ []) else [])) begins
 
 -- the length of a run
 free_from_is : (free : ℕ → Bool) (a n m : ℕ) → n ≤ m → ((i : ℕ) → a ≤ i → i < a + n → free i ≡ true) → (n < m → free (a + n) ≡ false) → free_from free a m ≡ n
@@ -59,13 +45,6 @@ begins_at free from (suc k) edge after within passed there = elim (eqb_tells fro
   | inr e ↦ let ne = e.1 in ap (λ x. x && not (free k)) there ∙ ap not (passed k (omega arith) (omega arith))
 ]
 
-begins_none : (free : ℕ → Bool) (i : ℕ) → free i ≡ false → begins_run free i ≡ false
-begins_none free zero taken = taken
-begins_none free (suc i) taken = ap (λ x. x && not (free i)) taken
-
-begins_no_more : (free : ℕ → Bool) (i : ℕ) → free i ≡ true → begins_run free (suc i) ≡ false
-begins_no_more free i before = ap (λ x. free (suc i) && not x) before ∙ elim (free (suc i)) as (λ x. (x && false) ≡ false) [ true ↦ refl | false ↦ refl ]
-
 behind_begin : (free : ℕ → Bool) (a i : ℕ) → a < i → ((k : ℕ) → a ≤ k → k < i → free k ≡ true) → begins_run free i ≡ false
 behind_begin free a zero less all = absurd (omega arith)
 behind_begin free a (suc i) less all = begins_no_more free i (all i (omega arith) (omega arith))
@@ -85,63 +64,8 @@ next_listed free b from r edge is =
 pub last_listed : (free : ℕ → Bool) (b from : ℕ) → IsFirstLine free true from LINES_IN_BLOCK → runs_below free b LINES_IN_BLOCK ≡ runs_below free b from
 last_listed free b from none = none_begin free b from LINES_IN_BLOCK none.reached (λ i h below. begins_none free i (none.passed i h below))
 
-pub first_listed : (free : ℕ → Bool) (b : ℕ) → runs_below free b 0 ≡ []
-unfolding runs_below
-first_listed free b = refl
-
 pub edge_behind : (free : ℕ → Bool) (b from : ℕ) (r : Run) → IsNextRun free b from r → IsEdge free (r.line + r.lines)
 edge_behind free b from r is _ less = is.ends.there less
-
-either : (b : Bool) → (b ≡ true) ⊎ (b ≡ false)
-either true = inl refl
-either false = inr refl
-
-begins_behind : (free : ℕ → Bool) (i : ℕ) → begins_run free (suc i) ≡ true → free i ≡ false
-begins_behind free i begins = elim (either (free i)) [
-  | inl before ↦ let none = begins_no_more free i before in cc
-  | inr before ↦ before
-]
-
-begins_free : (free : ℕ → Bool) (i : ℕ) → begins_run free i ≡ true → free i ≡ true
-begins_free free i begins = elim (either (free i)) [
-  | inl here ↦ here
-  | inr here ↦ let none = begins_none free i here in cc
-]
-
-abbrev AreFew : (ℕ → Bool) → ℕ → ℕ → Type 0
-AreFew free b k = (2 * length (runs_below free b k) ≤ k + 1) × ((j : ℕ) → k ≡ suc j → free j ≡ false → 2 * length (runs_below free b k) ≤ k)
-
-few_same : (free : ℕ → Bool) (b k : ℕ) → begins_run free k ≡ false → 2 * length (runs_below free b k) ≤ k + 1 → AreFew free b (suc k)
-few_same free b k none few =
-    let same : length (runs_below free b (suc k)) ≡ length (runs_below free b k) = ap length (none_begin free b k (suc k) (omega arith) (λ i h below. ap (begins_run free) (let z : i ≡ k = omega (arith, h, below) in z) ∙ none)) in
-    (omega arith, λ _ _ _. omega arith)
-
-few_more : (free : ℕ → Bool) (b k : ℕ) → begins_run free k ≡ true → 2 * length (runs_below free b k) ≤ k → AreFew free b (suc k)
-few_more free b k begins few =
-    let run : Run = record { block = b; line = k; lines = free_from free k (LINES_IN_BLOCK - k) } in
-    let more : length (runs_below free b (suc k)) ≡ length (runs_below free b k) + 1 = ap length (one_begins free b k begins) ∙ length-append (runs_below free b k) (run ∷ []) in
-    let here = begins_free free k begins in
-    (omega arith, λ j is taken. let same : k ≡ j = omega (arith, is) in let there = ap free same in absurd (let z : true ≡ false = sym here ∙ there ∙ taken in cc z))
-
-few_next : (free : ℕ → Bool) (b k : ℕ) → AreFew free b k → AreFew free b (suc k)
-few_next free b zero few = elim (either (begins_run free 0)) [
-  | inl begins ↦ let none : length (runs_below free b 0) ≡ 0 = ap length (first_listed free b) in few_more free b 0 begins (omega arith)
-  | inr none ↦ few_same free b 0 none few.0
-]
-few_next free b (suc k) few = elim (either (begins_run free (suc k))) [
-  | inl begins ↦ few_more free b (suc k) begins (few.1 k refl (begins_behind free k begins))
-  | inr none ↦ few_same free b (suc k) none few.0
-]
-
-few_runs_below : (free : ℕ → Bool) (b k : ℕ) → AreFew free b k
-few_runs_below free b zero =
-    let none : length (runs_below free b 0) ≡ 0 = ap length (first_listed free b) in
-    (omega arith, λ j is _. absurd (omega (arith, is)))
-few_runs_below free b (suc k) = few_next free b k (few_runs_below free b k)
-
--- between two runs lies a line, so a block has no more than 64
-pub few_runs : (free : ℕ → Bool) (b k : ℕ) → k ≤ LINES_IN_BLOCK → length (runs_below free b k) ≤ 64
-few_runs free b k within = let few = (few_runs_below free b k).0 in omega arith
 
 -- where a run is found, fewer than 64 were found before
 pub room_left : (free : ℕ → Bool) (b from : ℕ) (r : Run) → IsEdge free from → IsNextRun free b from r → length (runs_below free b from) + 1 ≤ 64
@@ -158,70 +82,34 @@ next_words free b from x r edge is word =
     ∙ sym (map-append word_of_run (runs_below free b from) (r ∷ []))
     ∙ ap (map word_of_run) (sym (next_listed free b from r edge is))
 
--- ---- tables that are written entry after entry
+-- Words are those of the runs of a block's lines up to one, whatever lines have the edges that it began with: the edges that are left are those behind this line.
+abbrev pub IsFoundTo : (ℕ → Bool) → ℕ → ℕ → List ℕ → ℕ → Type 0
+IsFoundTo lines b edges found line = (line ≤ LINES_IN_BLOCK) × AreEdges edges lines line × IsEdge lines line × (found ≡ map word_of_run (runs_below lines b line))
 
-inside : (f : ℕ → ℕ) (at : ℕ) (xs : List ℕ) (i : ℕ) → at ≤ i → i < at + length xs → written f at xs i ≡ slice_index xs (i - at)
-inside f at xs i after before =
-    let test : (nat_le at i && nat_lt i (at + length xs)) ≡ true = grind (arith, nat_tests) in
-    ap (λ b. if b then slice_index xs (i - at) else f i) test
+pub found_none : (lines : ℕ → Bool) (b edges : ℕ) → AreEdges edges lines 0 → IsFoundTo lines b edges [] 0
+found_none lines b edges are = (omega arith, are, (λ some _. absurd (omega (arith, some))), sym (ap (map word_of_run) (first_listed lines b)))
 
-ahead : (f : ℕ → ℕ) (at : ℕ) (xs : List ℕ) (i : ℕ) → i < at → written f at xs i ≡ f i
-ahead f at xs i before =
-    let test : (nat_le at i && nat_lt i (at + length xs)) ≡ false = grind (arith, nat_tests) in
-    ap (λ b. if b then slice_index xs (i - at) else f i) test
+-- one run more is found
+pub found_more : (lines : ℕ → Bool) (b edges after x : ℕ) (found : List ℕ) (line : ℕ) (r : Run) → IsFoundTo lines b edges found line → IsNextRun lines b line r → AreEdges after lines (r.line + r.lines) → x ≡ word_of_run r
+    → IsFoundTo lines b after (found ++ (x ∷ [])) (r.line + r.lines)
+found_more lines b edges after x found line r is next left word =
+    (next.ends.within, left, edge_behind lines b line r next, ap (λ xs. xs ++ (x ∷ [])) is.3 ∙ next_words lines b line x r is.2 next word)
 
-past : (f : ℕ → ℕ) (at : ℕ) (xs : List ℕ) (i : ℕ) → at + length xs ≤ i → written f at xs i ≡ f i
-past f at xs i behind =
-    let test : (nat_le at i && nat_lt i (at + length xs)) ≡ false = grind (arith, nat_tests) in
-    ap (λ b. if b then slice_index xs (i - at) else f i) test
+-- there was room for it
+pub found_room : (lines : ℕ → Bool) (b edges : ℕ) (found : List ℕ) (line : ℕ) (r : Run) → IsFoundTo lines b edges found line → IsNextRun lines b line r → length found + 1 ≤ 64
+found_room lines b edges found line r is next =
+    let left = room_left lines b line r is.2 next in let same = ap length is.3 in let many = length-map (runs_below lines b line) word_of_run in
+    omega arith
 
-none_at : (f : ℕ → ℕ) (at i : ℕ) → f i ≡ written f at [] i
-none_at f at i = elim (leb_tells at i) [
-  | inl k ↦ let h = k.1 in sym (past f at [] i (omega arith))
-  | inr k ↦ sym (ahead f at [] i k.1)
-]
+-- where there is none, all are found
+pub found_all : (lines : ℕ → Bool) (b edges : ℕ) (found : List ℕ) (line : ℕ) → IsFoundTo lines b edges found line → IsFirstLine lines true line LINES_IN_BLOCK → found ≡ words_of_runs lines b
+found_all lines b edges found line is none = is.3 ∙ ap (map word_of_run) (sym (last_listed lines b line none))
 
-pub written_none : (f : ℕ → ℕ) (at : ℕ) → f ≡ written f at []
-written_none f at = λ j i. none_at f at i j
-
-one_at : (f : ℕ → ℕ) (at x i : ℕ) → changed f at x i ≡ written f at (x ∷ []) i
-one_at f at x i = elim (eqb_tells i at) [
-  | inl e ↦ let is = e.1 in
-      ap (λ b. if b then x else f i) e.0
-      ∙ sym (inside f at (x ∷ []) i (omega arith) (omega arith) ∙ ap (slice_index (x ∷ [])) (let z : i - at ≡ 0 = omega arith in z))
-  | inr e ↦ let ne = e.1 in
-      ap (λ b. if b then x else f i) e.0
-      ∙ elim (leb_tells at i) [
-        | inl k ↦ let after = k.1 in sym (past f at (x ∷ []) i (omega arith))
-        | inr k ↦ sym (ahead f at (x ∷ []) i k.1)
-      ]
-]
-
-pub written_one : (f : ℕ → ℕ) (at x : ℕ) → changed f at x ≡ written f at (x ∷ [])
-written_one f at x = λ j i. one_at f at x i j
-
-more_at : (f : ℕ → ℕ) (at : ℕ) (xs ys : List ℕ) (i : ℕ) → written (written f at xs) (at + length xs) ys i ≡ written f at (xs ++ ys) i
-more_at f at xs ys i =
-    let both : length (xs ++ ys) ≡ length xs + length ys = length-append xs ys in
-    elim (leb_tells at i) [
-      | inr k ↦ let before = k.1 in ahead (written f at xs) (at + length xs) ys i (omega arith) ∙ ahead f at xs i before ∙ sym (ahead f at (xs ++ ys) i before)
-      | inl k ↦ let after = k.1 in elim (leb_tells (at + length xs) i) [
-        | inr m ↦ let low = m.1 in
-            ahead (written f at xs) (at + length xs) ys i low ∙ inside f at xs i after low
-            ∙ sym (inside f at (xs ++ ys) i after (omega arith) ∙ get_or-append xs ys 0 (i - at) (omega arith))
-        | inl m ↦ let high = m.1 in elim (leb_tells (at + length xs + length ys) i) [
-          | inl e ↦ let end = e.1 in
-              past (written f at xs) (at + length xs) ys i end ∙ past f at xs i high ∙ sym (past f at (xs ++ ys) i (omega arith))
-          | inr e ↦ let low = e.1 in
-              inside (written f at xs) (at + length xs) ys i high low
-              ∙ ap (slice_index ys) (let z : i - (at + length xs) ≡ i - at - length xs = omega arith in z)
-              ∙ sym (inside f at (xs ++ ys) i after (omega arith) ∙ get_or-append_right xs ys (i - at) 0 (omega arith))
-        ]
-      ]
-    ]
-
-pub written_more : (f : ℕ → ℕ) (at : ℕ) (xs ys : List ℕ) → written (written f at xs) (at + length xs) ys ≡ written f at (xs ++ ys)
-written_more f at xs ys = λ j i. more_at f at xs ys i j
+-- the words that were found so far stand at the front of a row
+pub record HasFound (free b edges : ℕ) (words : List ℕ) (many : ℕ) : Type 0 where
+  pub most : many ≤ 64
+  pub row : length words ≡ 64
+  pub found : (line : ℕ) × IsFoundTo (bits_of free) b edges (take many words) line
 
 pub joined_more : (f : ℕ → List ℕ) (b : ℕ) → joined f b ++ f b ≡ joined f (b + 1)
 unfolding joined

@@ -1,6 +1,6 @@
 -- Searching the bits of a mask is searching the lines that it tells of.
 use Rattle.std.proofs.Common.{◌≡◌, ◌≢◌, ℕ, ◌+◌, ◌-◌, ◌*◌, ◌/◌, ◌%◌, ◌^◌, ◌<◌, ◌≤◌, refl, sym, ap, subst, ◌∙◌, inl, inr, arith, Bool, true, false, eq-eqb, eqb-true}
-use Rattle.std.specs.Prelude.{◌↔◌, IsBitSet, IsTrue, min, nat_eq, not}
+use Rattle.std.specs.Prelude.{◌↔◌, IsBitSet, IsTrue, min, not}
 use Rattle.std.specs.Int.{bit_at, bit_not, trailing_zeros, w128}
 use Rattle.std.specs.Int.Bits.{bit_and}
 use Rattle.std.proofs.lemmas.Bool.Decides.{eqb_tells, leb_tells}
@@ -9,6 +9,7 @@ use Rattle.std.proofs.lemmas.Nat.Bits.{bit_at-lt, bit_at-trailing_ones, bit_at-t
 use Rattle.lxr_layout.specs.declared.TheConstants.{GRANULES_IN_BLOCK, GRANULES_IN_LINE, LINES_IN_BLOCK}
 use Rattle.lxr_layout.specs.declared.runs.Run.{Run}
 use Rattle.lxr_tables.proofs.BitLemmas.{one_is_set, set_is_one, unset_is_zero}
+use Rattle.lxr_image.specs.Runs.{bits_of}
 use Rattle.lxr_image.specs.Settled.{IsLongest}
 use Rattle.lxr_image.specs.Tables.{Tables}
 use Rattle.lxr_blocks.specs.declared.states.BlockState.TheVariants.{Free, Partly, Whole}
@@ -48,10 +49,6 @@ not_true false never = refl
 
 pub untold_line : (mask : ℕ) (lines : ℕ → Bool) (i : ℕ) → IsMask mask lines → i < LINES_IN_BLOCK → bit_at mask i ≡ 0 → lines i ≡ false
 untold_line mask lines i is within none = not_true (lines i) (λ yes. let one = set_is_one mask i ((is i within).1 yes) in absurd (omega arith))
-
--- the bits of a mask as lines
-abbrev pub bits_of : ℕ → ℕ → Bool
-bits_of mask i = nat_eq (bit_at mask i) 1
 
 pub mask_of_bits : (mask : ℕ) → IsMask mask (bits_of mask)
 mask_of_bits mask i within = ((λ set. eq-eqb (bit_at mask i) 1 (set_is_one mask i set)), (λ yes. one_is_set mask i (eqb-true (bit_at mask i) 1 yes)))

@@ -11,7 +11,7 @@ use Rattle.lxr_blocks.specs.declared.states.BlockState.{BlockState}
 use Rattle.lxr_blocks.specs.declared.states.BlockState.TheVariants.{Free, Partly, Whole, Chosen, World}
 use Rattle.lxr_blocks.specs.Lines.{free_in}
 use Rattle.lxr_blocks.specs.States.{FreeIsFree, is_fixed, state_by_lines, state_in, state_number, state_of, with_state_by_lines}
-use Rattle.lxr_blocks.specs.Swept.{NeedsNoSweep, SweptIsByLines, with_states_by_lines}
+use Rattle.lxr_blocks.specs.Swept.{SweptIsByLines, with_states_by_lines}
 use Rattle.lxr_blocks.proofs.KnownLemmas.{free_told}
 use Rattle.lxr_blocks.proofs.LineLemmas.{all_free_state, free_or_not, none_free_state, some_free_state}
 use Rattle.lxr_blocks.proofs.MaskLemmas.{not_true}
@@ -155,20 +155,14 @@ kept_at t b c i order has = elim (leb_tells b i) [
       ap (λ x. chosen_state t i (x && not (is_fixed (state_in t i)))) (below i b k.1 ∙ sym (below i c (omega arith)))
 ]
 
--- blocks that need no sweep may be passed
-pub passed_swept : (t u : Tables) (b c : ℕ) → u ≡ with_states_by_lines t b → b ≤ c → ((k : ℕ) → b ≤ k → k < c → NeedsNoSweep u k) → ((k : ℕ) → k < c → FreeIsFree t k) → u ≡ with_states_by_lines t c
-passed_swept t u b c is order passed sound = is ∙ ap (λ f. record t { states = f }) (λ j i. kept_at t b c i order has j)
+-- blocks that have the states of their lines may be passed
+pub passed_swept : (t u : Tables) (b c : ℕ) → u ≡ with_states_by_lines t b → b ≤ c → ((k : ℕ) → b ≤ k → k < c → StandsByLines u k) → u ≡ with_states_by_lines t c
+passed_swept t u b c is order passed = is ∙ ap (λ f. record t { states = f }) (λ j i. kept_at t b c i order has j)
   where
-    was : (k : ℕ) → b ≤ k → state_in u k ≡ state_in t k
-    was k from = ap (λ x. state_in x k) is ∙ ap (λ x. state_of (chosen_state t k (x && not (is_fixed (state_in t k))))) (not_below k b from)
-
     has : (k : ℕ) → b ≤ k → k < c → HasStateByLines t k
-    has k from within = elim (passed k from within) [
-      | inl free ↦ λ _. let is_free = sym (was k from) ∙ free in zero_of_free (t.states k) is_free ∙ sym (ap state_number (sound k within is_free))
-      | inr by_lines ↦
-          subst (λ x. is_fixed (state_of (chosen_state t k (x && not (is_fixed (state_in t k))))) ≡ false → chosen_state t k (x && not (is_fixed (state_in t k))) ≡ state_number (state_by_lines t k))
-          (not_below k b from) (subst (λ x. HasStateByLines x k) is (has_state u k by_lines))
-    ]
+    has k from within =
+        subst (λ x. is_fixed (state_of (chosen_state t k (x && not (is_fixed (state_in t k))))) ≡ false → chosen_state t k (x && not (is_fixed (state_in t k))) ≡ state_number (state_by_lines t k))
+        (not_below k b from) (subst (λ x. HasStateByLines x k) is (has_state u k (passed k from within)))
 
 -- a block that comes next in a sweep is Free only where all its lines are
 pub sound_still : (t u : Tables) (b : ℕ) → u ≡ with_states_by_lines t b → FreeIsFree t b → FreeIsFree u b

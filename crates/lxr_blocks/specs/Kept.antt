@@ -6,6 +6,7 @@ use Rattle.lxr_layout.specs.declared.Place.{Place}
 use Rattle.lxr_layout.specs.declared.Shape.{Shape}
 use Rattle.lxr_layout.specs.Objects.{FitsShape}
 use Rattle.lxr_image.specs.declared.space.Space.{Space}
+use Rattle.lxr_image.specs.Settled.{IsFreeLine}
 use Rattle.lxr_image.specs.Tables.{Tables}
 use Rattle.lxr_image.specs.Spaces.{tables_of}
 use Rattle.lxr_image.specs.Reads.{granule_of}
@@ -14,11 +15,6 @@ use Rattle.lxr_blocks.specs.declared.states.BlockState.TheVariants.{Chosen}
 use Rattle.lxr_blocks.specs.Lines.{is_free}
 use Rattle.lxr_blocks.specs.Placing.{IsPlaced, IsRest, granule_count}
 use Rattle.lxr_blocks.specs.States.{KeepsFree, KeepsState, state_in}
-
--- a free line: it isn't handed out, and each count on it is 0
-pub record IsFreeLine (t : Tables) (n : ℕ) : Type 0 where
-  pub in_hand : t.outs n ≡ false
-  pub uncounted : (k : ℕ) → k < GRANULES_IN_LINE → t.counts (GRANULES_IN_LINE * n + k) ≡ 0
 
 -- the test of a line tells which lines are free
 abbrev pub FreeLineIsTold : Type 0

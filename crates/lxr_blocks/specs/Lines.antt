@@ -1,5 +1,5 @@
 -- Free lines of a heap, and the runs that they form.
-use Rattle.std.specs.Prelude.{◌≡◌, ℕ, zero, suc, ◌+◌, ◌-◌, ◌*◌, ◌/◌, ◌<◌, ◌≤◌, ◌==◌, ◌&&◌, not, Bool, true, false, IsTrue, List, [], ◌∷◌, ◌++◌, if◌then◌else◌}
+use Rattle.std.specs.Prelude.{◌≡◌, ℕ, zero, suc, ◌+◌, ◌-◌, ◌*◌, ◌/◌, ◌<◌, ◌≤◌, ◌==◌, ◌&&◌, not, Bool, true, false, IsTrue, if◌then◌else◌}
 use Rattle.lxr_layout.specs.declared.TheConstants.{GRANULES_IN_LINE, LINES_IN_BLOCK}
 use Rattle.lxr_layout.specs.declared.runs.Run.{Run}
 use Rattle.lxr_image.specs.Tables.{Tables}
@@ -32,21 +32,6 @@ pub record IsFreeRun (t : Tables) (blocks : ℕ) (r : Run) : Type 0 where
   pub free : (i : ℕ) → r.line ≤ i → i < r.line + r.lines → IsTrue (free_in t r.block i)
 
 -- From here on: which lines of one block are free.
-
--- how many lines are free in a row from a line on, of so many
-unfoldable pub free_from : (ℕ → Bool) → ℕ → ℕ → ℕ
-free_from free n zero = 0
-free_from free n (suc k) = if free n then (suc (free_from free (n + 1) k)) else 0
-
--- a run begins at a line: it is free, and the line before it isn't or is of another block
-abbrev pub begins_run : (ℕ → Bool) → ℕ → Bool
-begins_run free zero = free 0
-begins_run free (suc i) = free (suc i) && not (free i)
-
--- the runs of a block that begin below a line, each as long as can be, in order
-unfoldable pub runs_below : (ℕ → Bool) → ℕ → ℕ → List Run
-runs_below free b zero = []
-runs_below free b (suc k) = runs_below free b k ++ (if begins_run free k then (record { block = b; line = k; lines = free_from free k (LINES_IN_BLOCK - k) } ∷ []) else [])
 
 -- how many of the first lines are free
 unfoldable pub free_count : (ℕ → Bool) → ℕ → ℕ

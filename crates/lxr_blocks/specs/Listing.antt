@@ -1,13 +1,13 @@
 -- The tables of runs and of free blocks, as they are listed anew.
-use Rattle.std.specs.Prelude.{◌≡◌, ℕ, zero, suc, ◌+◌, ◌-◌, nat_le, nat_lt, ◌&&◌, Bool, true, false, List, [], ◌∷◌, ◌++◌, map, length, slice_index, if◌then◌else◌}
-use Rattle.lxr_layout.specs.declared.TheConstants.{FREE_BLOCK_COUNT, FREE_BLOCK_CURSOR, LINES_IN_BLOCK, RUN_COUNT, RUN_CURSOR}
-use Rattle.lxr_layout.specs.Runs.{word_of_run}
+use Rattle.std.specs.Prelude.{◌≡◌, ℕ, zero, suc, ◌+◌, Bool, true, false, List, [], ◌∷◌, ◌++◌, length, if◌then◌else◌}
+use Rattle.lxr_layout.specs.declared.TheConstants.{FREE_BLOCK_COUNT, FREE_BLOCK_CURSOR, RUN_COUNT, RUN_CURSOR}
 use Rattle.lxr_image.specs.declared.space.Space.{Space}
-use Rattle.lxr_image.specs.Tables.{Tables, changed}
+use Rattle.lxr_image.specs.Tables.{Tables, changed, written}
+use Rattle.lxr_image.specs.Runs.{words_of_runs}
 use Rattle.lxr_image.specs.Spaces.{tables_of}
 use Rattle.lxr_blocks.specs.declared.states.BlockState.{BlockState}
 use Rattle.lxr_blocks.specs.declared.states.BlockState.TheVariants.{Free, Partly, Whole, Chosen, World}
-use Rattle.lxr_blocks.specs.Lines.{free_in, runs_below}
+use Rattle.lxr_blocks.specs.Lines.{free_in}
 use Rattle.lxr_blocks.specs.States.{state_in}
 
 -- the states of the blocks whose runs are listed
@@ -33,7 +33,7 @@ joined f (suc b) = joined f b ++ f b
 
 -- the words of a block's runs, in order
 abbrev pub run_words : Tables → ℕ → List ℕ
-run_words t b = map word_of_run (runs_below (free_in t b) b LINES_IN_BLOCK)
+run_words t b = words_of_runs (free_in t b) b
 
 -- the same, where the block's runs are listed
 abbrev pub block_runs : Tables → ℕ → List ℕ
@@ -56,10 +56,6 @@ listed_runs t blocks = joined (block_runs t) blocks
 abbrev pub listed_frees : Tables → ℕ → List ℕ
 listed_frees t blocks = joined (block_frees t) blocks
 
--- a table with numbers written from an index on
-abbrev pub written : (ℕ → ℕ) → ℕ → List ℕ → ℕ → ℕ
-written f at xs i = if nat_le at i && nat_lt i (at + length xs) then slice_index xs (i - at) else f i
-
 -- the runs and the free blocks are listed, and nothing is drawn of them yet
 abbrev pub with_lists : Tables → List ℕ → List ℕ → Tables
 with_lists t runs frees = record t {
@@ -68,10 +64,7 @@ with_lists t runs frees = record t {
   cursors = changed (changed (changed (changed t.cursors RUN_CURSOR 0) RUN_COUNT (length runs)) FREE_BLOCK_CURSOR 0) FREE_BLOCK_COUNT (length frees);
 }
 
--- the tables with words written to the run table from an index on, and with numbers to the table of free blocks
-abbrev pub with_runs : Tables → ℕ → List ℕ → Tables
-with_runs t at words = record t { runs = written t.runs at words }
-
+-- the tables with numbers written to the table of free blocks from an index on
 abbrev pub with_frees : Tables → ℕ → List ℕ → Tables
 with_frees t at numbers = record t { frees = written t.frees at numbers }
 

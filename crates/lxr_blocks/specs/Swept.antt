@@ -1,8 +1,7 @@
 -- The states of all blocks, as a sweep gives them.
-use Rattle.std.specs.Prelude.{◌≡◌, ◌≢◌, ℕ, ◌<◌, ◌≤◌, ◌⊎◌, nat_lt, not, ◌&&◌, if◌then◌else◌}
-use Rattle.lxr_image.specs.Settled.{StandsByLines}
+use Rattle.std.specs.Prelude.{◌≡◌, ◌≢◌, ℕ, ◌<◌, ◌≤◌, nat_lt, not, ◌&&◌, if◌then◌else◌}
 use Rattle.lxr_image.specs.Tables.{Tables}
-use Rattle.lxr_blocks.specs.declared.states.BlockState.TheVariants.{Chosen, Free, World}
+use Rattle.lxr_blocks.specs.declared.states.BlockState.TheVariants.{Chosen, World}
 use Rattle.lxr_blocks.specs.States.{is_fixed, state_by_lines, state_in, state_number}
 
 -- each of the first so many blocks has the state of its lines, unless it is Chosen or World
@@ -10,10 +9,6 @@ abbrev pub with_states_by_lines : Tables → ℕ → Tables
 with_states_by_lines t blocks = record t {
   states = λ b. if nat_lt b blocks && not (is_fixed (state_in t b)) then state_number (state_by_lines t b) else t.states b;
 }
-
--- a sweep may pass a block: it is Free, or has the state of its lines
-abbrev pub NeedsNoSweep : Tables → ℕ → Type 0
-NeedsNoSweep t b = (state_in t b ≡ Free) ⊎ StandsByLines t b
 
 -- the first so many blocks were swept between these tables
 pub record AreSwept (before after : Tables) (blocks : ℕ) : Type 0 where

@@ -66,7 +66,7 @@ fn clear_outs(space: &mut Space)
     let mut block = space.next_handed(0);
     while block < space.limits.blocks {
         clear_block(space, Bits::Outs, block);
-        space.note_none_out(block);
+        space.know_none_out(block);
         block = space.next_handed(block + 1);
     }
 }

@@ -1,8 +1,10 @@
 //! Listing the free lines and the free blocks, for threads to draw from.
-ghost use Rattle.std.specs.Prelude.{◌≡◌, ◌+◌, ◌-◌, ◌*◌, ◌<◌, ◌≤◌, length};
+ghost use Rattle.std.specs.Prelude.{◌≡◌, ◌+◌, ◌-◌, ◌*◌, ◌<◌, ◌≤◌, length, take};
+ghost use Rattle.lxr_layout.specs.declared.TheConstants.{MOST_BLOCKS};
+ghost use Rattle.lxr_image.specs.Runs.{bits_of, with_runs, words_of_runs};
 ghost use Rattle.lxr_image.specs.Spaces.{IsSpace, Turns, tables_of};
-ghost use Rattle.lxr_blocks.specs.Lines.{free_in, runs_below};
-ghost use Rattle.lxr_blocks.specs.Listing.{TurnsWithRest, block_runs, listed_frees, listed_runs, numbers_from, run_words, with_frees, with_listed, with_lists, with_runs};
+ghost use Rattle.lxr_blocks.specs.declared.listing.TheConstants.{MOST_RUNS};
+ghost use Rattle.lxr_blocks.specs.Listing.{TurnsWithRest, block_runs, listed_frees, listed_runs, numbers_from, run_words, with_frees, with_listed, with_lists};
 
 use crate::in_use::next_in_use;
 use crate::masks::{edges_of, free_mask, next_run};
@@ -10,7 +12,43 @@ use crate::states::{BlockState, state};
 use lxr_image::Space;
 use lxr_layout::{FREE_BLOCK_COUNT, FREE_BLOCK_CURSOR, RUN_COUNT, RUN_CURSOR, run_word};
 
-/// Writes the runs of a block to the run table from an index on, and answers the index behind them.
+/// The most runs that a block has: between two of them lies a line.
+const MOST_RUNS: usize = 64;
+
+/// Finds the runs of a block with these free lines. Their words are written to the front of a row, and it answers how many there are.
+fn find_runs(free: u128, block: u32, words: &mut [u64; MOST_RUNS]) -> usize
+    requires { block < MOST_BLOCKS }
+    ensures most { result ≤ MOST_RUNS }
+    ensures runs { take result words.new ≡ words_of_runs (bits_of free) block }
+{
+    let mut edges = edges_of(free);
+    let mut many = 0;
+    while let Some((run, behind)) = next_run(edges, block) {
+        words[many] = run_word(run);
+        many += 1;
+        edges = behind;
+    }
+    many
+}
+
+/// Finds the runs of a block and writes them to the run table from an index on. It answers the index behind them. They are kept for the listings
+/// to come.
+fn list_anew(space: &mut Space, block: u32, first: u32) -> u32
+    requires space { IsSpace space.old }
+    requires block { block < space.old.limits.blocks }
+    requires first { first ≤ 64 * block }
+    ensures runs { Turns space.old space.new (with_runs (tables_of space.old) first (run_words (tables_of space.old) block)) }
+    ensures count { result ≡ first + length (run_words (tables_of space.old) block) }
+{
+    let mut words = [0; MOST_RUNS];
+    let many = find_runs(free_mask(space, block), block, &mut words);
+    let found = &words[..many];
+    space.put_runs(first, found);
+    space.keep_runs(block, found);
+    first + many as u32
+}
+
+/// Writes the runs of a block to the run table from an index on, and answers the index behind them. Where they are kept they are copied.
 fn list_lines(space: &mut Space, block: u32, first: u32) -> u32
     requires space { IsSpace space.old }
     requires block { block < space.old.limits.blocks }
@@ -19,16 +57,10 @@ fn list_lines(space: &mut Space, block: u32, first: u32) -> u32
     ensures count { result ≡ first + length (run_words (tables_of space.old) block) }
     ensures room { result ≤ 64 * (block + 1) }
 {
-    let mut edges = edges_of(free_mask(space, block));
-    let mut at = first;
-    let mut line = 0;
-    while let Some((run, behind)) = next_run(edges, block) {
-        space.put_run(at, run_word(run));
-        at += 1;
-        line = u32::from(run.line) + u32::from(run.lines);
-        edges = behind;
+    match space.put_known_runs(block, first) {
+        Some(many) => first + many,
+        None => list_anew(space, block, first),
     }
-    at
 }
 
 /// Writes the runs of a block that has the state for it.

@@ -32,7 +32,7 @@ struct Fit {
     free: u128,
 }
 
-/// The free lines of a block. None where it has no so many in a row, if a few of its lines tell.
+/// The free lines of a block. None where a few of its lines tell that it has not so many in a row.
 fn searched_mask(space: &Space, block: u32, lines: u8) -> Option<u128>
     requires space { IsSpace space.now }
     requires block { block < space.now.limits.blocks }

@@ -1,50 +1,16 @@
 //! The sweep over all blocks.
-ghost use Rattle.std.specs.Prelude.{◌<◌, ◌≤◌, ℕ};
+ghost use Rattle.std.specs.Prelude.{◌<◌};
 ghost use Rattle.lxr_image.specs.Settled.{AreCounted, AreCountedIn};
 ghost use Rattle.lxr_image.specs.Spaces.{IsSpace, Turns, tables_of};
 ghost use Rattle.lxr_blocks.specs.Lines.{free_in};
 ghost use Rattle.lxr_blocks.specs.Masks.{IsMask};
 ghost use Rattle.lxr_blocks.specs.States.{FreeBlocksAreFree, FreeIsFree, with_state_by_lines};
-ghost use Rattle.lxr_blocks.specs.Swept.{NeedsNoSweep, with_states_by_lines};
+ghost use Rattle.lxr_blocks.specs.Swept.{with_states_by_lines};
 
 use crate::masks::counted_mask;
-use crate::states::{BlockState, longest_of, put_state_by, state};
-use crate::{next_in_use, renew_state};
+use crate::states::{BlockState, longest_of, put_state_by, renew_state, state};
 use lxr_image::Space;
-
-/// The first block from one on that is neither Free nor known to have the state of its free lines; where there is none, how many
-/// blocks there are.
-#[inline(always)]
-fn next_unswept(space: &Space, from: u32) -> u32
-    requires space { IsSpace space.now }
-    requires from { from ≤ space.now.limits.blocks }
-    ensures range { (from ≤ result) × (result ≤ space.now.limits.blocks) }
-    ensures passed { (b : ℕ) → from ≤ b → b < result → NeedsNoSweep (tables_of space.now) b }
-{
-    let mut at = space.next_noted(from);
-    while let Some(block) = next_in_use(space, at) {
-        if block == at {
-            return block;
-        }
-        at = space.next_noted(block);
-    }
-    space.limits.blocks
-}
-
-/// Gives each block the state of its free lines, unless it is Chosen or World. One that is Free has only free lines, and
-/// nothing but its state is read. One that is known to have the state of its lines isn't looked at.
-pub fn sweep_lines(space: &mut Space)
-    requires space { IsSpace space.old }
-    requires free { FreeBlocksAreFree (tables_of space.old) space.old.limits.blocks }
-    ensures states { Turns space.old space.new (with_states_by_lines (tables_of space.old) space.old.limits.blocks) }
-    ensures space { IsSpace space.new }
-{
-    let mut block = next_unswept(space, 0);
-    while block < space.limits.blocks {
-        renew_state(space, block);
-        block = next_unswept(space, block + 1);
-    }
-}
+use lxr_layout::LINES_IN_BLOCK;
 
 /// The free lines of a block. Where its state is Free it tells that all are free.
 #[inline(always)]
@@ -60,7 +26,8 @@ fn swept_mask(space: &Space, block: u32) -> u128
     }
 }
 
-/// Gives a block the state of its free lines, unless it is Chosen or World. Its lines and its state are known from then on.
+/// Gives a block the state of its free lines, unless it is Chosen or World. Its lines and its state are known from then on, but where all
+/// lines of a Chosen or World block are free.
 fn settle_block(space: &mut Space, block: u32)
     requires space { IsSpace space.old }
     requires block { block < space.old.limits.blocks }
@@ -70,11 +37,28 @@ fn settle_block(space: &mut Space, block: u32)
 {
     let free = swept_mask(space, block);
     put_state_by(space, block, free);
-    space.settle(block, free, longest_of(free));
+    let longest = longest_of(free);
+    if u32::from(longest) < LINES_IN_BLOCK || space.state_word(block) == BlockState::Free.number() {
+        space.settle(block, free, longest);
+    }
 }
 
-/// Gives each block the state of its free lines, unless it is Chosen or World, as `sweep_lines` does where each object has a
-/// count. A block that it looks at isn't looked at again until something changes in it.
+/// Gives each block the state of its free lines, unless it is Chosen or World. One that is known to have the state of its lines isn't looked at.
+pub fn sweep_lines(space: &mut Space)
+    requires { IsSpace space.old }
+    ensures states { Turns space.old space.new (with_states_by_lines (tables_of space.old) space.old.limits.blocks) }
+    ensures space { IsSpace space.new }
+{
+    let mut block = space.next_noted(0);
+    while block < space.limits.blocks {
+        renew_state(space, block);
+        block = space.next_noted(block + 1);
+    }
+}
+
+/// Gives each block the state of its free lines, unless it is Chosen or World, where each object has a count. One that is Free has only
+/// free lines, and nothing but its state is read. One that is known to have the state of its lines isn't looked at; one that is looked at
+/// isn't again, until something changes in it.
 pub fn settle_lines(space: &mut Space)
     requires space { IsSpace space.old }
     requires free { FreeBlocksAreFree (tables_of space.old) space.old.limits.blocks }

@@ -6,9 +6,10 @@
 //! pauses move them.
 #![tactic(auto)]
 
+mod arrays;
 mod passes;
 
-ghost use Rattle.std.specs.Prelude.{◌≡◌, ℕ, Bool, true, false, Option, OnErr, Result, option_map};
+ghost use Rattle.std.specs.Prelude.{◌≡◌, ℕ, Bool, true, false, List, [], ◌∷◌, Option, OnErr, Result, option_map};
 ghost use Rattle.lxr_layout.specs.declared.Shape.{Shape as ShapeOf};
 ghost use Rattle.lxr_heap.specs.declared.bulk.BodyReply.{BodyReply as BodyReplyOf};
 ghost use Rattle.lxr_c_base.specs.Codes.{Answer, answered as is_answered, code_in, flag as is_flag, number_of, told, written_over};
@@ -25,6 +26,10 @@ ghost use Rattle.lxr_c_many.specs.Calling.{Does, LoadsReferences, PutsWords, See
 ghost use Rattle.lxr_c_many.specs.Clearing.{LetsGo};
 ghost use Rattle.lxr_c_many.specs.Fields.{base_of_loads, base_of_stores};
 ghost use Rattle.lxr_c_many.specs.Making.{MakesWith, wanted_of};
+ghost use Rattle.lxr_c_words.specs.Looking as looking_at_words;
+ghost use Rattle.lxr_c_words.specs.Looking.{SeesLength};
+ghost use Rattle.lxr_c_words.specs.Making.{MakesWords, words_wanted};
+ghost use Rattle.lxr_c_words.specs.Writing as writing_words;
 
 use lxr_c_base::{Code, code_of, requests};
 use lxr_c_heap::{Handle, Settings};
@@ -99,13 +104,13 @@ fn flag(test: bool) -> u32
     if test { 1 } else { 0 }
 }
 
-/// The shape of an object, and the blocks of its body, where there is an object.
-fn of_object(answer: Result<Option<(Shape, u32)>, Code>) -> Result<(Shape, u32), Code>
+/// What is told of an object, where there is one.
+fn of_object<T: Copy>(answer: Result<Option<T>, Code>) -> Result<T, Code>
     ensures { result ≡ is_of_object answer }
 {
     match answer {
         Ok(None) => Err(Code::Nil),
-        Ok(Some(found)) => Ok(found),
+        Ok(Some(told)) => Ok(told),
         Err(code) => Err(code),
     }
 }
@@ -414,6 +419,71 @@ pub extern "C" fn lxr_apply(
             applied.code.number()
         }
     }
+}
+
+/// Register `dest` gets a new object of so many words, which are 0: 0 to 524,287.
+///
+/// Up to 1,023 of them are its data words. More stand in the body of a large object, in blocks of 4,096 words, behind a word that says how many
+/// there are.
+#[unsafe(no_mangle)]
+pub extern "C" fn lxr_words_new(heap: &mut Handle, dest: u32, length: u32) -> u32
+    ensures { (answer : Answer) × Does (MakesWords length) heap.old.block.value heap.new.block.value (words_wanted (registers_kept heap.old.block.value) dest length) answer × (result ≡ is_answered answer) }
+{
+    answered(lxr_c_words::new(heap, dest, length))
+}
+
+/// Writes how many words the object has that `base` holds.
+#[unsafe(no_mangle)]
+pub extern "C" fn lxr_words_length(heap: &mut Handle, base: u32, length: &mut u32) -> u32
+    ensures { (answer : Result (Option ℕ) CodeOf) × Looks SeesLength heap.old.block.value heap.new.block.value (asking.register_of (registers_kept heap.old.block.value) base) answer
+        × (result ≡ number_of (code_in (is_of_object answer))) × (length.new ≡ written_over length.old (told (λ n. n) (is_of_object answer))) }
+{
+    match of_object(lxr_c_words::length(heap, base)) {
+        Err(code) => code.number(),
+        Ok(count) => {
+            *length = count;
+            Code::Done.number()
+        }
+    }
+}
+
+/// Writes word `index` of the object that `base` holds to `word`.
+#[unsafe(no_mangle)]
+pub extern "C" fn lxr_words_get(heap: &mut Handle, base: u32, index: u32, word: &mut u64) -> u32
+    ensures { (answer : Result BodyReplyOf CodeOf) × Looks (looking_at_words.SeesWords index (word.old ∷ []) (word.new ∷ [])) heap.old.block.value heap.new.block.value (asking.register_of (registers_kept heap.old.block.value) base) answer
+        × OnErr answer (word.new ≡ word.old) × (result ≡ number_of (is_bulk_code answer)) }
+{
+    let mut words = [*word];
+    let answer = lxr_c_words::read(heap, base, index, &mut words);
+    *word = words[0];
+    bulk_code(answer).number()
+}
+
+/// Word `index` of the object that `base` holds becomes `word`.
+#[unsafe(no_mangle)]
+pub extern "C" fn lxr_words_put(heap: &mut Handle, base: u32, index: u32, word: u64) -> u32
+    ensures { (answer : Result BodyReplyOf CodeOf) × Does (writing_words.Writes index (word ∷ [])) heap.old.block.value heap.new.block.value (asking.register_of (registers_kept heap.old.block.value) base) answer
+        × (result ≡ number_of (is_bulk_code answer)) }
+{
+    bulk_code(lxr_c_words::write(heap, base, index, &[word])).number()
+}
+
+/// Reads words of the object that `base` holds, from `first` on: all of them or none.
+#[unsafe(no_mangle)]
+pub extern "C" fn lxr_words_read(heap: &mut Handle, base: u32, first: u32, words: &mut [u64]) -> u32
+    ensures { (answer : Result BodyReplyOf CodeOf) × Looks (looking_at_words.SeesWords first words.old words.new) heap.old.block.value heap.new.block.value (asking.register_of (registers_kept heap.old.block.value) base) answer
+        × OnErr answer (words.new ≡ words.old) × (result ≡ number_of (is_bulk_code answer)) }
+{
+    bulk_code(lxr_c_words::read(heap, base, first, words)).number()
+}
+
+/// Writes over words of the object that `base` holds, from `first` on: all of them or none.
+#[unsafe(no_mangle)]
+pub extern "C" fn lxr_words_write(heap: &mut Handle, base: u32, first: u32, words: &[u64]) -> u32
+    ensures { (answer : Result BodyReplyOf CodeOf) × Does (writing_words.Writes first words.now) heap.old.block.value heap.new.block.value (asking.register_of (registers_kept heap.old.block.value) base) answer
+        × (result ≡ number_of (is_bulk_code answer)) }
+{
+    bulk_code(lxr_c_words::write(heap, base, first, words)).number()
 }
 
 /// Writes how many there are of what `what` counts.

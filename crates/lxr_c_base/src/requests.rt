@@ -39,7 +39,7 @@ pub fn in_use_of(registers: u16, count: u32) -> Result<u16, Code>
 
 /// An index as an operation has it: a greater one than 65,535 finds nothing, as that one does.
 #[inline(always)]
-fn index_of(index: u32) -> u16
+pub fn index_of(index: u32) -> u16
     ensures { result ≡ is_index_of index }
 {
     if index < 65_536 { index as u16 } else { 65_535 }

@@ -115,4 +115,4 @@ large_send : IsSend LargeHeap.the_row
 large_send = view_send in_heap.the_row _ _ _ _ (declared_send in_heap.the_type (heap_send, tt))
 
 pub host_send : IsSend HostHeap.the_row
-host_send = declared_send HostHeap.the_type (large_send, (pace.the_send, (search sendable depth 20, (search sendable, (search sendable, (seal.the_send, tt))))))
+host_send = declared_send HostHeap.the_type (large_send, (search sendable, (pace.the_send, (search sendable depth 20, (search sendable, (search sendable, (seal.the_send, tt)))))))

@@ -1,10 +1,11 @@
 -- What an operation may want is told by what it is: one that makes no object finds its place, and one that stores no reference has nothing to log.
-use Rattle.std.proofs.Common.{◌≡◌, ℕ, refl, Option, Some, None}
+use Rattle.std.proofs.Common.{◌≡◌, ℕ, ◌≤◌, refl, arith, Option, Some, None}
 use Rattle.std.specs.Prelude.{slice_get}
 use Rattle.lxr_layout.specs.declared.Name.{Name}
 use Rattle.lxr_graph.specs.declared.Op.TheVariants as op
 use Rattle.lxr_graph.specs.State.{State, object_at, refs_of, register_at, values_of}
 use Rattle.lxr_graph.specs.Step.{get_from, got, load_from, loaded, put_at, put_to}
+use Rattle.lxr_graph.proofs.FormLemmas.{formed_more}
 use Rattle.lxr_model.specs.Moments.{Moment}
 use Rattle.lxr_large_model.specs.declared.LargeOp.{LargeOp}
 use Rattle.lxr_large_model.specs.declared.LargeOp.TheVariants as large_op
@@ -31,6 +32,28 @@ making_may registers o is = absurd is
 pub storing_may : (registers : ℕ) (o : LargeOp) → IsStoring registers o → MayBeCalled registers o
 storing_may registers (large_op.Small (op.Store base index source)) is = is
 storing_may registers o is = absurd is
+
+-- what may be called of some registers may be called of more
+pub may_more : (m n : ℕ) (o : LargeOp) → m ≤ n → MayBeCalled m o → MayBeCalled n o
+may_more m n (large_op.Small o) few may = (formed_more m n o few may.0, may.1)
+may_more m n (large_op.Big dest blocks) few (named, some, most) = (omega (arith, few, named), some, most)
+may_more m n (large_op.BigPut base index value) few named = omega (arith, few, named)
+may_more m n (large_op.BigGet base index) few named = omega (arith, few, named)
+
+pub quiet_more : (m n : ℕ) (o : LargeOp) → m ≤ n → IsQuiet m o → IsQuiet n o
+quiet_more m n (large_op.Small (op.New dest shape)) few is = absurd is
+quiet_more m n (large_op.Small (op.Store base index source)) few is = absurd is
+quiet_more m n (large_op.Big dest blocks) few is = absurd is
+quiet_more m n o few is = may_more m n o few is
+
+pub making_more : (m n : ℕ) (o : LargeOp) → m ≤ n → IsMaking m o → IsMaking n o
+making_more m n (large_op.Small (op.New dest shape)) few is = may_more m n (large_op.Small (op.New dest shape)) few is
+making_more m n (large_op.Big dest blocks) few is = may_more m n (large_op.Big dest blocks) few is
+making_more m n o few is = absurd is
+
+pub storing_more : (m n : ℕ) (o : LargeOp) → m ≤ n → IsStoring m o → IsStoring n o
+storing_more m n (large_op.Small (op.Store base index source)) few is = may_more m n (large_op.Small (op.Store base index source)) few is
+storing_more m n o few is = absurd is
 
 -- ---- pauses
 

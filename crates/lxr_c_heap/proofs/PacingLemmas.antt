@@ -9,6 +9,7 @@ use Rattle.lxr_large_model.specs.declared.LargeOp.{LargeOp}
 use Rattle.lxr_large_model.specs.declared.LargeOp.TheVariants as large_op
 use Rattle.lxr_large_model.specs.declared.LargeReply.{LargeReply}
 use Rattle.lxr_large_model.specs.declared.LargeReply.TheVariants as large_reply
+use Rattle.lxr_large_model.specs.Full.{LargeTerms}
 use Rattle.lxr_large_model.specs.History.{LargeItem, Called}
 use Rattle.lxr_heap.specs.declared.bulk.BodyReply.{BodyReply}
 use Rattle.lxr_heap.specs.declared.bulk.BodyReply.TheVariants as body_reply
@@ -17,7 +18,8 @@ use Rattle.lxr_heap.specs.Bulk.{with_puts, with_written}
 use Rattle.lxr_heap.specs.Holding.{made_with}
 use Rattle.lxr_c_base.specs.Requests.{IsQuiet}
 use Rattle.lxr_c_heap.specs.declared.host.HostHeap.{HostHeap}
-use Rattle.lxr_c_heap.specs.Hosting.{IsHostOf, Pauses, Renews, Replies, behind_pause}
+use Rattle.lxr_layout.specs.declared.TheConstants.{LEAST_REGISTERS}
+use Rattle.lxr_c_heap.specs.Hosting.{IsHostOf, Pauses, Renews, Replies, all_registers_in, behind_pause, registers_in}
 use Rattle.lxr_c_heap.specs.Pacing.{bytes_by, bytes_made}
 
 -- ---- an object
@@ -64,14 +66,31 @@ quiet_bytes registers o r is = refl
 
 -- ---- histories
 
-pub paused_host : (x y : HostHeap) (h : List LargeItem) (collect : Bool) → Pauses x y h collect → IsHostOf y (behind_pause y h)
-paused_host x y h collect paused = record { heap = paused.heap.holds; bytes = ap (λ (z : HostHeap). z.bytes) paused.rest }
+-- where as many registers are named, and there are as many, those that are named are there
+pub still_named : (x y : HostHeap) → registers_in y ≡ registers_in x → all_registers_in y ≡ all_registers_in x → (LEAST_REGISTERS ≤ registers_in x) × (registers_in x ≤ all_registers_in x)
+    → (LEAST_REGISTERS ≤ registers_in y) × (registers_in y ≤ all_registers_in y)
+still_named x y named all (some, few) = (omega (arith, named, some), omega (arith, named, all, few))
+
+pub paused_host : (x y : HostHeap) (h : List LargeItem) (collect : Bool) → IsHostOf x h → Pauses x y h collect → IsHostOf y (behind_pause y h)
+paused_host x y h collect is paused = record {
+  heap = paused.heap.holds;
+  bytes = ap (λ (z : HostHeap). z.bytes) paused.rest;
+  named = still_named x y (ap registers_in paused.rest) (ap (λ (t : LargeTerms). t.registers) paused.heap.terms) is.named;
+}
 
 pub renewed_host : (x y : HostHeap) (h k : List LargeItem) → IsHostOf x h → Renews x y h k → IsHostOf y k
-renewed_host x y h k is renewed = subst (IsHostOf y) (sym renewed.history) (record { heap = renewed.heap.holds; bytes = ap (λ (z : HostHeap). z.bytes) renewed.rest ∙ is.bytes })
+renewed_host x y h k is renewed = subst (IsHostOf y) (sym renewed.history) (record {
+  heap = renewed.heap.holds;
+  bytes = ap (λ (z : HostHeap). z.bytes) renewed.rest ∙ is.bytes;
+  named = still_named x y (ap registers_in renewed.rest) (ap (λ (t : LargeTerms). t.registers) renewed.heap.terms) is.named;
+})
 
 pub replied_host : (x y : HostHeap) (h : List LargeItem) (o : LargeOp) (r : LargeReply) → IsHostOf x h → Replies x y h o r → IsHostOf y (Called o r ∷ h)
-replied_host x y h o r is replies = record { heap = replies.heap.holds; bytes = ap (λ (z : HostHeap). z.bytes) replies.rest ∙ ap (λ n. n + bytes_by o r) is.bytes }
+replied_host x y h o r is replies = record {
+  heap = replies.heap.holds;
+  bytes = ap (λ (z : HostHeap). z.bytes) replies.rest ∙ ap (λ n. n + bytes_by o r) is.bytes;
+  named = still_named x y (ap registers_in replies.rest) (ap (λ (t : LargeTerms). t.registers) replies.heap.terms) is.named;
+}
 
 -- words that are put take no bytes
 puts_bytes : (h : List LargeItem) (base i : ℕ) (words : List ℕ) → bytes_made (with_puts h base i words) ≡ bytes_made h

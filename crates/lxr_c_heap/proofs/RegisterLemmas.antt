@@ -1,18 +1,17 @@
 -- A heap has as many registers as before, whatever is called: its terms stay over calls, pauses and renewals.
-use Rattle.std.proofs.Common.{◌≡◌, ℕ, ◌≤◌, ◌∙◌, sym, ap, inl, inr, Bool, false, true, List, Some}
+use Rattle.std.proofs.Common.{◌≡◌, ℕ, ◌≤◌, ◌∙◌, sym, ap, arith, inl, inr, Bool, false, true, List, Some}
 use mathlib.Core.Logic.{∥∥₁_elim}
 use Rattle.std.specs.Coded.{le_prop}
 use Rattle.std.proofs.Math.Nat.{ℕ_set}
-use Rattle.lxr_layout.specs.declared.TheConstants.{REGISTERS}
+use Rattle.lxr_layout.specs.declared.TheConstants.{LEAST_REGISTERS, REGISTERS}
 use Rattle.lxr_large_model.specs.declared.LargeOp.{LargeOp}
 use Rattle.lxr_large_model.specs.declared.LargeReply.{LargeReply}
 use Rattle.lxr_large_model.specs.Full.{LargeTerms}
 use Rattle.lxr_large_model.specs.History.{LargeItem}
 use Rattle.lxr_c_heap.specs.declared.host.Ends.{Ends}
 use Rattle.lxr_c_heap.specs.declared.host.HostHeap.{HostHeap}
-use Rattle.lxr_c_heap.specs.Hosting.{Acts, IsHostOf, IsServing, Makes, Pauses, PausesAsked, PausesFor, PausesWhere, Replies, SettlesAt, Stores, registers_in}
+use Rattle.lxr_c_heap.specs.Hosting.{Acts, IsHostOf, Makes, Pauses, PausesAsked, PausesFor, PausesWhere, Renews, Replies, SettlesAt, Stores, all_registers_in, behind_pause, registers_in}
 use Rattle.lxr_c_heap.specs.Keeping.{Kept, registers_kept}
-use Rattle.lxr_c_heap.proofs.PacingLemmas.{paused_host}
 use Rattle.lxr_c_heap.proofs.RoomLemmas.{SomeHistory, paused_holds, settled_holds}
 
 -- ---- what each history tells
@@ -21,51 +20,91 @@ use Rattle.lxr_c_heap.proofs.RoomLemmas.{SomeHistory, paused_holds, settled_hold
 pub known : (x : HostHeap) (m n : ℕ) → SomeHistory x → ((h : List LargeItem) → IsHostOf x h → m ≡ n) → m ≡ n
 known x m n some told = ∥∥₁_elim some (ℕ_set m n) (λ of. told of.0 of.1)
 
--- a heap has 16 to 256 registers
-pub some_registers : (x : HostHeap) → SomeHistory x → 16 ≤ registers_in x
-some_registers x some = ∥∥₁_elim some le_prop (λ of. of.1.heap.rests.safepoint.holds.space.limits.registers.0)
+-- a heap has no more registers than there are, and its host names so many at least, and none that it hasn't
+pub some_registers : (x : HostHeap) → SomeHistory x → LEAST_REGISTERS ≤ registers_in x
+some_registers x some = ∥∥₁_elim some le_prop (λ of. of.1.named.0)
+
+pub all_few : (x : HostHeap) → SomeHistory x → all_registers_in x ≤ REGISTERS
+all_few x some = ∥∥₁_elim some le_prop (λ of. of.1.heap.rests.safepoint.holds.space.limits.registers.1)
+
+pub named_few : (x : HostHeap) → SomeHistory x → registers_in x ≤ all_registers_in x
+named_few x some = ∥∥₁_elim some le_prop (λ of. of.1.named.1)
 
 pub few_registers : (x : HostHeap) → SomeHistory x → registers_in x ≤ REGISTERS
-few_registers x some = ∥∥₁_elim some le_prop (λ of. of.1.heap.rests.safepoint.holds.space.limits.registers.1)
+few_registers x some = let all = all_few x some in let few = named_few x some in omega (arith, all, few)
 
 -- ---- each relation
 
--- the registers of terms
-abbrev of_terms : LargeTerms → ℕ
-of_terms t = t.registers
+-- A number of a heap that replies, pauses and renewals leave as it is is as before each pause for a cause and behind each operation.
+module _ (number : HostHeap → ℕ) (replied : (x y : HostHeap) (h : List LargeItem) (o : LargeOp) (r : LargeReply) → Replies x y h o r → number y ≡ number x)
+    (paused : (x y : HostHeap) (h : List LargeItem) (collect : Bool) → Pauses x y h collect → number y ≡ number x) (renewed : (x y : HostHeap) (h k : List LargeItem) → Renews x y h k → number y ≡ number x) where
+  where_same : (cause : Type 0) (collect : Bool) (x y : HostHeap) (h k : List LargeItem) → PausesWhere cause collect x h y k → number y ≡ number x
+  where_same cause collect x y h k (inl (there, made, same)) = paused x y h collect made
+  where_same cause collect x y h k (inr (none, left, same)) = ap number left
 
+  settled_same : (ends : Ends) (x y : HostHeap) (h k : List LargeItem) → SettlesAt ends x h y k → number y ≡ number x
+  settled_same ends x y h k (inl (there, m, made, anew)) = renewed m y (behind_pause m h) k anew ∙ paused x m h true made
+  settled_same ends x y h k (inr (none, left, same)) = ap number left
+
+  for_same : (o : LargeOp) (x y : HostHeap) (h k : List LargeItem) → PausesFor o x h y k → number y ≡ number x
+  for_same o x y h k (inl (collect, needs, made, same)) = paused x y h collect made
+  for_same o x y h k (inr (none, left, same)) = ap number left
+
+  acted_same : (x y : HostHeap) (h : List LargeItem) (o : LargeOp) (r : LargeReply) → Acts x y h o r → number y ≡ number x
+  acted_same x y h o r acts = replied acts.middle y acts.history o r acts.replies ∙ for_same o x acts.middle h acts.history acts.pauses
+
+  stored_same : (x y : HostHeap) (h : List LargeItem) (o : LargeOp) (r : LargeReply) → Stores x y h o r → number y ≡ number x
+  stored_same x y h o r stores = acted_same stores.settled y stores.history o r stores.acts ∙ settled_same _ x stores.settled h stores.history stores.settles
+
+  made_same : (x y : HostHeap) (h : List LargeItem) (o : LargeOp) (r : LargeReply) → Makes x y h o r → number y ≡ number x
+  made_same x y h o r makes =
+      acted_same makes.paused y makes.paused_history o r makes.acts
+      ∙ where_same _ false makes.settled makes.paused makes.settled_history makes.paused_history makes.pauses
+      ∙ settled_same _ x makes.settled h makes.settled_history makes.settles
+
+-- those that the host may name
 pub replied_keeps : (x y : HostHeap) (h : List LargeItem) (o : LargeOp) (r : LargeReply) → Replies x y h o r → registers_in y ≡ registers_in x
-replied_keeps x y h o r replies = ap of_terms replies.heap.terms
+replied_keeps x y h o r replies = ap registers_in replies.rest
 
 pub paused_keeps : (x y : HostHeap) (h : List LargeItem) (collect : Bool) → Pauses x y h collect → registers_in y ≡ registers_in x
-paused_keeps x y h collect paused = ap of_terms paused.heap.terms
+paused_keeps x y h collect paused = ap registers_in paused.rest
 
-pub where_keeps : (cause : Type 0) (collect : Bool) (x y : HostHeap) (h k : List LargeItem) → PausesWhere cause collect x h y k → registers_in y ≡ registers_in x
-where_keeps cause collect x y h k (inl (there, paused, same)) = paused_keeps x y h collect paused
-where_keeps cause collect x y h k (inr (none, left, same)) = ap registers_in left
+renewed_keeps : (x y : HostHeap) (h k : List LargeItem) → Renews x y h k → registers_in y ≡ registers_in x
+renewed_keeps x y h k renewed = ap registers_in renewed.rest
 
 pub settled_keeps : (ends : Ends) (x y : HostHeap) (h k : List LargeItem) → SettlesAt ends x h y k → registers_in y ≡ registers_in x
-settled_keeps ends x y h k (inl (there, m, paused, renewed)) = ap of_terms renewed.heap.terms ∙ paused_keeps x m h true paused
-settled_keeps ends x y h k (inr (none, left, same)) = ap registers_in left
-
-for_keeps : (o : LargeOp) (x y : HostHeap) (h k : List LargeItem) → PausesFor o x h y k → registers_in y ≡ registers_in x
-for_keeps o x y h k (inl (collect, needs, paused, same)) = paused_keeps x y h collect paused
-for_keeps o x y h k (inr (none, left, same)) = ap registers_in left
-
-pub acted_keeps : (x y : HostHeap) (h : List LargeItem) (o : LargeOp) (r : LargeReply) → Acts x y h o r → registers_in y ≡ registers_in x
-acted_keeps x y h o r acts = replied_keeps acts.middle y acts.history o r acts.replies ∙ for_keeps o x acts.middle h acts.history acts.pauses
+settled_keeps = settled_same registers_in replied_keeps paused_keeps renewed_keeps
 
 pub stored_keeps : (x y : HostHeap) (h : List LargeItem) (o : LargeOp) (r : LargeReply) → Stores x y h o r → registers_in y ≡ registers_in x
-stored_keeps x y h o r stores = acted_keeps stores.settled y stores.history o r stores.acts ∙ settled_keeps _ x stores.settled h stores.history stores.settles
+stored_keeps = stored_same registers_in replied_keeps paused_keeps renewed_keeps
 
 pub made_keeps : (x y : HostHeap) (h : List LargeItem) (o : LargeOp) (r : LargeReply) → Makes x y h o r → registers_in y ≡ registers_in x
-made_keeps x y h o r makes =
-    acted_keeps makes.paused y makes.paused_history o r makes.acts
-    ∙ where_keeps _ false makes.settled makes.paused makes.settled_history makes.paused_history makes.pauses
-    ∙ settled_keeps _ x makes.settled h makes.settled_history makes.settles
+made_keeps = made_same registers_in replied_keeps paused_keeps renewed_keeps
 
 pub asked_keeps : (x y : HostHeap) (h : List LargeItem) (collect : Bool) → PausesAsked x y h collect → registers_in y ≡ registers_in x
 asked_keeps x y h collect asked = paused_keeps asked.settled y asked.history collect asked.pauses ∙ settled_keeps _ x asked.settled h asked.history asked.settles
+
+-- and all that there are
+pub replied_all : (x y : HostHeap) (h : List LargeItem) (o : LargeOp) (r : LargeReply) → Replies x y h o r → all_registers_in y ≡ all_registers_in x
+replied_all x y h o r replies = ap (λ (t : LargeTerms). t.registers) replies.heap.terms
+
+paused_all : (x y : HostHeap) (h : List LargeItem) (collect : Bool) → Pauses x y h collect → all_registers_in y ≡ all_registers_in x
+paused_all x y h collect paused = ap (λ (t : LargeTerms). t.registers) paused.heap.terms
+
+renewed_all : (x y : HostHeap) (h k : List LargeItem) → Renews x y h k → all_registers_in y ≡ all_registers_in x
+renewed_all x y h k renewed = ap (λ (t : LargeTerms). t.registers) renewed.heap.terms
+
+pub where_all : (cause : Type 0) (collect : Bool) (x y : HostHeap) (h k : List LargeItem) → PausesWhere cause collect x h y k → all_registers_in y ≡ all_registers_in x
+where_all = where_same all_registers_in replied_all paused_all renewed_all
+
+pub settled_all : (ends : Ends) (x y : HostHeap) (h k : List LargeItem) → SettlesAt ends x h y k → all_registers_in y ≡ all_registers_in x
+settled_all = settled_same all_registers_in replied_all paused_all renewed_all
+
+pub stored_all : (x y : HostHeap) (h : List LargeItem) (o : LargeOp) (r : LargeReply) → Stores x y h o r → all_registers_in y ≡ all_registers_in x
+stored_all = stored_same all_registers_in replied_all paused_all renewed_all
+
+pub made_all : (x y : HostHeap) (h : List LargeItem) (o : LargeOp) (r : LargeReply) → Makes x y h o r → all_registers_in y ≡ all_registers_in x
+made_all = made_same all_registers_in replied_all paused_all renewed_all
 
 -- ---- a handle
 

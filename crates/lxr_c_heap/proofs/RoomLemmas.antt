@@ -5,6 +5,8 @@ use Rattle.std.specs.Coded.{le_prop}
 use Rattle.std.proofs.lemmas.Bool.{cases_lt}
 use Rattle.std.proofs.Math.Nat.{ℕ_set}
 use mathlib.Core.Logic.{∥∥₁_elim, ∥∥₁_prop}
+use Rattle.std.specs.Prelude.{if◌then◌else◌, nat_le}
+use Rattle.lxr_layout.specs.declared.TheConstants.{REGISTERS}
 use Rattle.lxr_graph.specs.declared.Op.TheVariants as op
 use Rattle.lxr_large_model.specs.declared.Acted.{Acted}
 use Rattle.lxr_large_model.specs.declared.Acted.TheVariants as acted
@@ -28,13 +30,15 @@ use Rattle.lxr_c_heap.specs.declared.host.Ends.{Ends}
 use Rattle.lxr_c_heap.specs.declared.host.HostHeap.{HostHeap}
 use Rattle.lxr_c_heap.specs.declared.host.Seal.{Seal}
 use Rattle.lxr_c_heap.specs.declared.settings.Settings.{Settings}
-use Rattle.lxr_c_heap.specs.Hosting.{Acts, HasRoom, IsAtEnd, IsHostOf, IsOpened, IsServing, IsWithin, Needs, Pauses, PausesWhere, Replies, SettlesAt, behind_pause, registers_in}
+use Rattle.lxr_c_heap.specs.Hosting.{Acts, HasRoom, IsAtEnd, IsHostOf, IsOpened, IsServing, IsWithin, Needs, Pauses, PausesWhere, Replies, SettlesAt, all_registers_in, behind_pause, registers_in}
 use Rattle.lxr_c_heap.specs.declared.pacing.Pace.{Pace}
 use Rattle.lxr_c_heap.specs.Pacing.{bytes_by, limit_of, pace_of}
-use Rattle.lxr_c_heap.specs.Settings.{registers_of}
+use Rattle.lxr_layout.specs.declared.TheConstants.{LEAST_REGISTERS}
+use Rattle.lxr_c_heap.specs.declared.settings.TheConstants.{OWN_REGISTERS}
+use Rattle.lxr_c_heap.specs.Settings.{AreSettings, registers_of, with_own}
 use Rattle.lxr_c_base.specs.Requests.{IsQuiet}
 use Rattle.lxr_c_heap.proofs.OperationLemmas.{quiet_makes, quiet_may}
-use Rattle.lxr_c_heap.proofs.PacingLemmas.{bytes_bound, bytes_few, paused_host, quiet_bytes, renewed_host, replied_host, written_bytes}
+use Rattle.lxr_c_heap.proofs.PacingLemmas.{bytes_bound, bytes_few, paused_host, quiet_bytes, renewed_host, replied_host, still_named, written_bytes}
 
 -- some history that a program's heap is of
 abbrev pub SomeHistory : HostHeap → Type 0
@@ -49,7 +53,7 @@ paused_none x y collect some paused = ∥∥₁_elim some le_prop (λ of. let no
 -- and one less can be made
 pub paused_room : (objects pauses : ℕ) (x y : HostHeap) (collect : Bool) → HasRoom objects (pauses + 1) x → ((h : List LargeItem) → IsHeapOf x.heap h → Pauses x y h collect) → HasRoom objects pauses y
 paused_room objects pauses x y collect room paused = record {
-  holds = ∥∥₁_elim room.holds ∥∥₁_prop (λ of. ∣ (behind_pause y of.0, paused_host x y of.0 collect (paused of.0 of.1.heap)) ∣₁);
+  holds = ∥∥₁_elim room.holds ∥∥₁_prop (λ of. ∣ (behind_pause y of.0, paused_host x y of.0 collect of.1 (paused of.0 of.1.heap)) ∣₁);
   made = ∥∥₁_elim room.holds le_prop (λ of. let same = (paused of.0 of.1.heap).heap.made in let few = room.made in omega (arith, same, few));
   paused = ∥∥₁_elim room.holds le_prop (λ of.
       let one = paused_pauses x.heap y.heap of.0 collect of.1.heap (paused of.0 of.1.heap).heap in
@@ -64,7 +68,7 @@ paused_fresh x y some paused = ∥∥₁_elim some (Bool-set _ _) (λ of. let p 
 
 -- it is of some history
 pub paused_some : (x y : HostHeap) (collect : Bool) → SomeHistory x → ((h : List LargeItem) → IsHeapOf x.heap h → Pauses x y h collect) → SomeHistory y
-paused_some x y collect some paused = ∥∥₁_elim some ∥∥₁_prop (λ of. ∣ (behind_pause y of.0, paused_host x y of.0 collect (paused of.0 of.1.heap)) ∣₁)
+paused_some x y collect some paused = ∥∥₁_elim some ∥∥₁_prop (λ of. ∣ (behind_pause y of.0, paused_host x y of.0 collect of.1 (paused of.0 of.1.heap)) ∣₁)
 
 -- a heap that was renewed behind a pause has room
 pub renewed_room : (x : HostHeap) (heap : Heap) → SomeHistory x → x.bytes ≤ 0 → ((h : List LargeItem) → IsHeapOf x.heap h → RenewsHeap x.heap heap h) → HasRoom 2 3 (record x { heap = heap })
@@ -107,30 +111,47 @@ pub with_less : (objects pauses : ℕ) (x : HostHeap) → HasRoom objects (pause
 with_less objects pauses x room = record { holds = room.holds; made = room.made; paused = let few = room.paused in omega (arith, few); bytes = room.bytes }
 
 -- a heap that was opened has its pace from the first object on
-pub opened_with : (heap : Heap) (wanted : Settings) (pace : Pace) (limit : Option ℕ) (seal : Seal) → IsOpenedHeap heap wanted.blocks wanted.body_blocks (registers_of wanted) → pace ≡ pace_of wanted.pace → limit ≡ limit_of pace heap
-    → IsOpened (record { heap = heap; pace = pace; limit = limit; bytes = 0; pauses = 0; seal = seal }) wanted
-opened_with heap wanted pace limit seal opened is within = record {
-  heap = opened;
-  rest = ap (λ (p : Pace). record { heap = heap; pace = p; limit = limit; bytes = 0; pauses = 0; seal = seal }) is
-      ∙ ap (λ (l : Option ℕ). record { heap = heap; pace = pace_of wanted.pace; limit = l; bytes = 0; pauses = 0; seal = seal }) (within ∙ ap (λ p. limit_of p heap) is);
+pub opened_with : (heap : Heap) (wanted : Settings) (named : ℕ) (pace : Pace) (limit : Option ℕ) (seal : Seal) → IsOpenedHeap heap wanted.blocks wanted.body_blocks (with_own named) → named ≡ registers_of wanted → pace ≡ pace_of wanted.pace
+    → limit ≡ limit_of pace heap → IsOpened (record { heap = heap; named = named; pace = pace; limit = limit; bytes = 0; pauses = 0; seal = seal }) wanted
+opened_with heap wanted named pace limit seal opened same is within = record {
+  heap = subst (λ n. IsOpenedHeap heap wanted.blocks wanted.body_blocks (with_own n)) same opened;
+  rest = ap (λ n. record { heap = heap; named = n; pace = pace; limit = limit; bytes = 0; pauses = 0; seal = seal }) same
+      ∙ ap (λ (p : Pace). record { heap = heap; named = registers_of wanted; pace = p; limit = limit; bytes = 0; pauses = 0; seal = seal }) is
+      ∙ ap (λ (l : Option ℕ). record { heap = heap; named = registers_of wanted; pace = pace_of wanted.pace; limit = l; bytes = 0; pauses = 0; seal = seal }) (within ∙ ap (λ p. limit_of p heap) is);
 }
 
+-- there are as many registers as the host names
+own_more : (n : ℕ) → n ≤ with_own n
+own_more n = at_room (nat_le (n + OWN_REGISTERS) REGISTERS)
+  where
+    at_room : (b : Bool) → n ≤ (if b then n + OWN_REGISTERS else n)
+    at_room true = omega arith
+    at_room false = omega arith
+
 -- a heap without a history serves
-pub opened_serves : (x : HostHeap) (wanted : Settings) → IsOpened x wanted → IsServing x
-opened_serves x wanted opened = record {
-  holds = ∣ ([], record { heap = opened.heap.holds; bytes = ap (λ (z : HostHeap). z.bytes) opened.rest }) ∣₁;
+pub opened_serves : (x : HostHeap) (wanted : Settings) → AreSettings wanted → IsOpened x wanted → IsServing x
+opened_serves x wanted fit opened = record {
+  holds = ∣ ([], record { heap = opened.heap.holds; bytes = ap (λ (z : HostHeap). z.bytes) opened.rest; named = named }) ∣₁;
   made = let none = opened.heap.made in omega (arith, none);
   paused = let none = pauses_are x.heap [] opened.heap.holds in omega (arith, none);
   bytes = let none = ap (λ (z : HostHeap). z.bytes) opened.rest in omega (arith, none);
 }
+  where
+    named : (LEAST_REGISTERS ≤ registers_in x) × (registers_in x ≤ all_registers_in x)
+    named =
+        let same : registers_in x ≡ registers_of wanted = ap registers_in opened.rest in
+        let all : all_registers_in x ≡ with_own (registers_of wanted) = ap (λ (t : LargeTerms). t.registers) opened.heap.terms in
+        let some = fit.registers.0 in
+        let more = own_more (registers_of wanted) in
+        (omega (arith, same, some), omega (arith, same, all, more))
 
 -- what is behind a pause for a cause, and behind settling, is the heap of the history that is told
 pub paused_holds : (cause : Type 0) (collect : Bool) (x y : HostHeap) (h k : List LargeItem) → IsHostOf x h → PausesWhere cause collect x h y k → IsHostOf y k
-paused_holds cause collect x y h k is (inl (there, paused, same)) = subst (IsHostOf y) (sym same) (paused_host x y h collect paused)
+paused_holds cause collect x y h k is (inl (there, paused, same)) = subst (IsHostOf y) (sym same) (paused_host x y h collect is paused)
 paused_holds cause collect x y h k is (inr (none, left, same)) = subst (IsHostOf y) (sym same) (subst (λ (z : HostHeap). IsHostOf z h) (sym left) is)
 
 pub settled_holds : (ends : Ends) (x y : HostHeap) (h k : List LargeItem) → IsHostOf x h → SettlesAt ends x h y k → IsHostOf y k
-settled_holds ends x y h k is (inl (there, m, paused, renewed)) = renewed_host m y (behind_pause m h) k (paused_host x m h true paused) renewed
+settled_holds ends x y h k is (inl (there, m, paused, renewed)) = renewed_host m y (behind_pause m h) k (paused_host x m h true is paused) renewed
 settled_holds ends x y h k is (inr (none, left, same)) = subst (IsHostOf y) (sym same) (subst (λ (z : HostHeap). IsHostOf z h) (sym left) is)
 
 -- ---- operations
@@ -169,25 +190,25 @@ quiet_steps registers terms h (large_op.Big dest blocks) r is replies = absurd i
 quiet_steps registers terms h o r is replies = replies
 
 -- and so it takes no object
-pub quiet_room : (x y : HostHeap) (o : LargeOp) (r : LargeReply) → IsQuiet (registers_in x) o → IsServing x → ((h : List LargeItem) → IsHeapOf x.heap h → Replies x y h o r) → IsServing y
+pub quiet_room : (x y : HostHeap) (o : LargeOp) (r : LargeReply) → IsQuiet (all_registers_in x) o → IsServing x → ((h : List LargeItem) → IsHeapOf x.heap h → Replies x y h o r) → IsServing y
 quiet_room x y o r is room replies = record {
   holds = ∥∥₁_elim room.holds ∥∥₁_prop (λ of. ∣ (Called o r ∷ of.0, replied_host x y of.0 o r of.1 (replies of.0 of.1.heap)) ∣₁);
   made = ∥∥₁_elim room.holds le_prop (λ of.
       let came = (replies of.0 of.1.heap).heap in
-      let step = quiet_steps (registers_in x) (terms_of y.heap) of.0 o r is came.holds.legal.1.reply in
-      let same = came.made ∙ ap (made_by x.heap.made) (sym step) ∙ quiet_makes (registers_in x) (large_state of.0) o x.heap.made is in
+      let step = quiet_steps (all_registers_in x) (terms_of y.heap) of.0 o r is came.holds.legal.1.reply in
+      let same = came.made ∙ ap (made_by x.heap.made) (sym step) ∙ quiet_makes (all_registers_in x) (large_state of.0) o x.heap.made is in
       let few = room.made in
       omega (arith, same, few));
   paused = ∥∥₁_elim room.holds le_prop (λ of.
       let same = called_pauses x.heap y.heap of.0 o r of.1.heap (replies of.0 of.1.heap).heap.holds in
       let few = room.paused in
       omega (arith, same, few));
-  bytes = ∥∥₁_elim room.holds le_prop (λ of. replied_bytes x y of.0 o r (registers_in x, quiet_may (registers_in x) o is) room.bytes (replies of.0 of.1.heap));
+  bytes = ∥∥₁_elim room.holds le_prop (λ of. replied_bytes x y of.0 o r (all_registers_in x, quiet_may (all_registers_in x) o is) room.bytes (replies of.0 of.1.heap));
 }
 
 -- an operation that makes nothing leaves the bytes
-pub quiet_same : (x : HostHeap) (heap : Heap) (o : LargeOp) (r : LargeReply) → IsQuiet (registers_in x) o → record x { heap = heap } ≡ record x { heap = heap; bytes = x.bytes + bytes_by o r }
-quiet_same x heap o r is = ap (λ n. record x { heap = heap; bytes = n }) (let none = quiet_bytes (registers_in x) o r is in omega (arith, none))
+pub quiet_same : (x : HostHeap) (heap : Heap) (o : LargeOp) (r : LargeReply) → IsQuiet (all_registers_in x) o → record x { heap = heap } ≡ record x { heap = heap; bytes = x.bytes + bytes_by o r }
+quiet_same x heap o r is = ap (λ n. record x { heap = heap; bytes = n }) (let none = quiet_bytes (all_registers_in x) o r is in omega (arith, none))
 
 -- words that are put make no pause
 puts_number : (h : List LargeItem) (base i : ℕ) (words : List ℕ) → (large_moment (with_puts h base i words)).number ≡ (large_moment h).number
@@ -202,7 +223,7 @@ written_number body_reply.Range h base i words = refl
 -- so words that are written in a row take neither objects nor pauses
 pub written_room : (x : HostHeap) (heap : Heap) (base i : ℕ) (words : List ℕ) (r : BodyReply) → IsServing x → ((h : List LargeItem) → IsHeapOf x.heap h → WritesWords x.heap heap h base i words r) → IsServing (record x { heap = heap })
 written_room x heap base i words r room writes = record {
-  holds = ∥∥₁_elim room.holds ∥∥₁_prop (λ of. ∣ (_, record { heap = (writes of.0 of.1.heap).holds; bytes = of.1.bytes ∙ sym (written_bytes r of.0 base i words) }) ∣₁);
+  holds = ∥∥₁_elim room.holds ∥∥₁_prop (λ of. ∣ (_, record { heap = (writes of.0 of.1.heap).holds; bytes = of.1.bytes ∙ sym (written_bytes r of.0 base i words); named = still_named x (record x { heap = heap }) refl (ap (λ (t : LargeTerms). t.registers) (writes of.0 of.1.heap).terms) of.1.named }) ∣₁);
   made = ∥∥₁_elim room.holds le_prop (λ of. let same = (writes of.0 of.1.heap).made in let few = room.made in omega (arith, same, few));
   paused = ∥∥₁_elim room.holds le_prop (λ of.
       let after = pauses_are heap (with_written r of.0 base i words) (writes of.0 of.1.heap).holds in
@@ -261,7 +282,7 @@ module _ (x : HostHeap) (a : Heap) (m : HostHeap) (o : LargeOp) (collect : Bool)
   behind_wants_none h is = wanted_wants_none x.heap m.heap h o collect (wants x.heap a h o collect (acts h is)) (paused_same h is).heap
 
   -- it has the registers that it had
-  pub behind_registers : SomeHistory x → registers_in m ≡ registers_in x
+  pub behind_registers : SomeHistory x → all_registers_in m ≡ all_registers_in x
   behind_registers some = ∥∥₁_elim some (ℕ_set _ _) (λ of. ap (λ (t : LargeTerms). t.registers) (paused_same of.0 of.1.heap).heap.terms)
 
   -- and is done
@@ -282,4 +303,4 @@ module _ (x : HostHeap) (a : Heap) (m : HostHeap) (o : LargeOp) (collect : Bool)
   pub behind_serves : (y : HostHeap) (r : LargeReply) → IsCallable o → HasRoom 2 2 x → ((h : List LargeItem) → WantsNoPause m.heap h o → Replies m y h o r) → IsServing y
   behind_serves y r may room replies = replied_room 1 1 m y o r may (behind_room room)
       (∥∥₁_elim room.holds ∥∥₁_prop (λ of.
-      ∣ (behind_pause m of.0, paused_host x m of.0 collect (paused_same of.0 of.1.heap), replies (behind_pause m of.0) (behind_wants_none of.0 of.1.heap)) ∣₁))
+      ∣ (behind_pause m of.0, paused_host x m of.0 collect of.1 (paused_same of.0 of.1.heap), replies (behind_pause m of.0) (behind_wants_none of.0 of.1.heap)) ∣₁))

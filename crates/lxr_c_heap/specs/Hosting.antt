@@ -1,5 +1,5 @@
 -- What a program's heap does at a call, with the pauses that it makes by itself: each for a cause.
-use Rattle.std.specs.Prelude.{◌≡◌, ℕ, ◌+◌, ◌*◌, ◌%◌, ◌^◌, ◌<◌, ◌≤◌, ◌⊎◌, Bool, true, false, List, ◌∷◌}
+use Rattle.std.specs.Prelude.{◌≡◌, ℕ, ◌+◌, ◌*◌, ◌%◌, ◌^◌, ◌<◌, ◌≤◌, ◌⊎◌, nat_le, if◌then◌else◌, Bool, true, false, Option, None, Some, List, ◌∷◌}
 use Rattle.lxr_graph.specs.History.{report_of}
 use Rattle.lxr_large_model.specs.declared.LargeOp.{LargeOp}
 use Rattle.lxr_large_model.specs.declared.LargeReply.{LargeReply}
@@ -11,16 +11,33 @@ use Rattle.lxr_heap.specs.Renewing.{RenewsHeap}
 use Rattle.lxr_c_heap.specs.declared.host.Ends.{Ends}
 use Rattle.lxr_c_heap.specs.declared.host.TheConstants.{ENDS}
 use Rattle.lxr_c_heap.specs.declared.host.HostHeap.{HostHeap}
+use Rattle.lxr_c_heap.specs.declared.own.OwnRegisters.{OwnRegisters}
 use Rattle.lxr_c_heap.specs.declared.settings.Settings.{Settings}
+use Rattle.lxr_layout.specs.declared.TheConstants.{LEAST_REGISTERS}
+use Rattle.lxr_c_heap.specs.declared.settings.TheConstants.{OWN_REGISTERS}
 use Rattle.lxr_c_heap.specs.Pacing.{IsReached, bytes_by, bytes_made, limit_of, pace_of}
-use Rattle.lxr_c_heap.specs.Settings.{registers_of}
+use Rattle.lxr_c_heap.specs.Settings.{registers_of, with_own}
 
 -- ---- a heap that serves
 
--- The heap of a program is that of a history: so is the heap in it, and the bytes are those of the objects that were made since the last pause.
+-- how many registers the host may name
+abbrev pub registers_in : HostHeap → ℕ
+registers_in x = x.named
+
+-- how many registers there are: the host's, and behind them those of the library's own, where there are any
+abbrev pub all_registers_in : HostHeap → ℕ
+all_registers_in x = x.heap.space.limits.registers
+
+-- the two registers of the library's own, where there is room for them
+abbrev pub own_in : HostHeap → Option OwnRegisters
+own_in x = if nat_le (registers_in x + OWN_REGISTERS) (all_registers_in x) then Some (record { first = registers_in x; second = registers_in x + 1 }) else None
+
+-- The heap of a program is that of a history: so is the heap in it, the bytes are those of the objects that were made since the last pause, and the
+-- registers that the host may name are there.
 pub record IsHostOf (x : HostHeap) (h : List LargeItem) : Type 0 where
   pub heap : IsHeapOf x.heap h
   pub bytes : x.bytes ≡ bytes_made h
+  pub named : (LEAST_REGISTERS ≤ registers_in x) × (registers_in x ≤ all_registers_in x)
 
 -- A heap of some history, of which so many more objects and pauses can be made: names have serials, and reports numbers, of 32 bits. No object
 -- takes 8 MB, so the bytes of new ones have a number of 64 bits.
@@ -34,14 +51,10 @@ pub record HasRoom (objects pauses : ℕ) (x : HostHeap) : Type 0 where
 abbrev pub IsServing : HostHeap → Type 0
 IsServing = HasRoom 1 1
 
--- how many registers its thread may name
-abbrev pub registers_in : HostHeap → ℕ
-registers_in x = x.heap.space.limits.registers
-
 -- a heap that was opened with settings: of their blocks and registers, and with their pace from the first object on
 pub record IsOpened (x : HostHeap) (s : Settings) : Type 0 where
-  pub heap : IsOpenedHeap x.heap s.blocks s.body_blocks (registers_of s)
-  pub rest : x ≡ record { heap = x.heap; pace = pace_of s.pace; limit = limit_of (pace_of s.pace) x.heap; bytes = 0; pauses = 0; seal = x.seal }
+  pub heap : IsOpenedHeap x.heap s.blocks s.body_blocks (with_own (registers_of s))
+  pub rest : x ≡ record { heap = x.heap; named = registers_of s; pace = pace_of s.pace; limit = limit_of (pace_of s.pace) x.heap; bytes = 0; pauses = 0; seal = x.seal }
 
 -- ---- pauses
 

@@ -26,10 +26,10 @@ abbrev pub kept_of : Option (Box HostHeap) → Kept
 kept_of None = None
 kept_of (Some b) = Some b.value
 
--- how many registers may be named: those of the heap, and none where there is none
+-- how many registers the host may name: none where there is no heap
 abbrev pub registers_kept : Kept → ℕ
 registers_kept None = 0
-registers_kept (Some x) = x.heap.space.limits.registers
+registers_kept (Some x) = x.named
 
 -- it was asked whether there is a heap
 abbrev pub Finds : Kept → Result (Unit {0}) Code → Type 0

@@ -120,7 +120,7 @@ Counts x h counted.FreeBodyBytes n = n ≡ 32768 * (x.heap.bodies.blocks - block
 -- ---- what the program gets
 
 -- what was told of an object: NIL where there is none
-abbrev pub of_object : Result (Option (Shape × ℕ)) Code → Result (Shape × ℕ) Code
+abbrev pub of_object : {T : Type 0} → Result (Option T) Code → Result T Code
 of_object (Ok None) = Err code.Nil
 of_object (Ok (Some s)) = Ok s
 of_object (Err e) = Err e

@@ -1,8 +1,8 @@
 -- The settings of a heap: which sizes are known, and the ranges of their numbers.
-use Rattle.std.specs.Prelude.{◌≡◌, ℕ, ◌≤◌, ◌==◌, ◌⊎◌, if◌then◌else◌}
-use Rattle.lxr_layout.specs.declared.TheConstants.{MOST_BLOCKS, REGISTERS}
+use Rattle.std.specs.Prelude.{◌≡◌, ℕ, ◌+◌, ◌≤◌, ◌==◌, ◌⊎◌, nat_le, if◌then◌else◌}
+use Rattle.lxr_layout.specs.declared.TheConstants.{LEAST_REGISTERS, MOST_BLOCKS, REGISTERS}
 use Rattle.lxr_c_heap.specs.declared.settings.Settings.{Settings}
-use Rattle.lxr_c_heap.specs.declared.settings.TheConstants.{FIRST_SETTINGS_BYTES, LEAST_REGISTERS, SETTINGS_BYTES}
+use Rattle.lxr_c_heap.specs.declared.settings.TheConstants.{FIRST_SETTINGS_BYTES, OWN_REGISTERS, SETTINGS_BYTES}
 
 -- the sizes that are known
 abbrev pub IsKnownSize : ℕ → Type 0
@@ -12,13 +12,17 @@ IsKnownSize size = (size ≡ SETTINGS_BYTES) ⊎ (size ≡ FIRST_SETTINGS_BYTES)
 abbrev pub IsBlockCount : ℕ → Type 0
 IsBlockCount n = (1 ≤ n) × (n ≤ MOST_BLOCKS)
 
--- so many registers a heap may have
+-- so many registers a host may name
 abbrev pub IsRegisterCount : ℕ → Type 0
 IsRegisterCount n = (LEAST_REGISTERS ≤ n) × (n ≤ REGISTERS)
 
--- how many registers a heap of these settings has: those of version 0.2 don't say it, and 0 says nothing; then it has the fewest
+-- how many registers the host of a heap of these settings names: those of version 0.2 don't say it, and 0 says nothing; then they are the fewest
 abbrev pub registers_of : Settings → ℕ
 registers_of s = if s.size == FIRST_SETTINGS_BYTES then LEAST_REGISTERS else (if s.registers == 0 then LEAST_REGISTERS else s.registers)
+
+-- how many registers a heap has whose host names so many: behind them the library has two of its own, where there is room for both
+abbrev pub with_own : ℕ → ℕ
+with_own named = if nat_le (named + OWN_REGISTERS) REGISTERS then named + OWN_REGISTERS else named
 
 -- settings of a size that is known, with such blocks and registers as a heap may have
 pub record AreSettings (s : Settings) : Type 0 where

@@ -14,7 +14,7 @@ use std::mem;
 /// A heap, or none where the first word is 0. It has no `Drop`, so that no heap is forgotten.
 #[repr(C)]
 pub struct Handle {
-    /// How many registers the heap has: so a call looks at its numbers before the heap.
+    /// How many registers the host may name: so a call looks at its numbers before the heap.
     registers: u64,
     pub block: Block,
     ghost empty: { registers ≡ 0 → block.value ≡ None },
@@ -46,7 +46,7 @@ impl Handle {
         self.registers != 0
     }
 
-    /// How many registers may be named: those of the heap, and none where there is none.
+    /// How many registers the host may name: none where there is no heap.
     #[inline(always)]
     pub fn registers(&self) -> u16
         ensures counted { result ≡ registers_kept self.now.block.value }
@@ -89,7 +89,7 @@ impl Handle {
         ensures { self.new.block.value ≡ Some heap.value }
     {
         let full = Handle {
-            registers: u64::from(heap.heap.registers()),
+            registers: u64::from(heap.named),
             block: Block::of_parts(Parts::of(heap)),
         };
         let Handle {

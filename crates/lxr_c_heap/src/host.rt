@@ -3,13 +3,13 @@ ghost use Rattle.std.specs.Prelude.{◌≡◌, ◌+◌, ◌-◌, ◌*◌, ◌^�
 ghost use Rattle.lxr_large_model.specs.History.{LargeItem};
 ghost use Rattle.lxr_heap.specs.Holding.{IsHeapOf};
 ghost use Rattle.lxr_heap.specs.Acting.{IsCallable, MayBeCalled, WantsNoPause};
-ghost use Rattle.lxr_c_heap.specs.Hosting.{Acts, HasRoom, IsAtEnd, IsDue, IsHostOf, IsOpened, IsServing, IsWithin, Makes, Pauses, PausesAsked, PausesWhere, Replies, SettlesAt, Stores, registers_in};
+ghost use Rattle.lxr_c_heap.specs.Hosting.{Acts, HasRoom, IsAtEnd, IsDue, IsHostOf, IsOpened, IsServing, IsWithin, Makes, Pauses, PausesAsked, PausesWhere, Replies, SettlesAt, Stores, all_registers_in};
 ghost use Rattle.lxr_c_heap.specs.Pacing.{bytes_by, limit_of};
 ghost use Rattle.lxr_c_heap.specs.Settings.{AreSettings};
 ghost use Rattle.lxr_c_base.specs.Requests.{IsMaking, IsQuiet, IsStoring};
 
 use crate::pacing::{Pace, bytes_of, is_reached};
-use crate::settings::Settings;
+use crate::settings::{Settings, with_own};
 use lxr_heap::LargeHeap;
 use lxr_large_model::{Acted, LargeOp, LargeReply};
 use std::alloc::{AllocError, Global};
@@ -33,6 +33,8 @@ struct Seal;
 /// The heap of a program. It has no `Drop`: it ends by `close`.
 pub struct HostHeap {
     pub heap: LargeHeap,
+    /// How many registers the host may name, the first ones. Those behind them are the library's own.
+    pub named: u16,
     /// When a plain pause is due before an object is made.
     pub pace: Pace,
     /// The bytes of new objects after which the next one is due.
@@ -51,16 +53,18 @@ impl HostHeap {
         ensures opened { IfOk result (λ x. IsOpened x wanted.now) }
         ensures serving { IfOk result IsServing }
     {
+        let named = wanted.registers();
         let heap = LargeHeap::open(
             alloc,
             wanted.blocks,
             wanted.body_blocks,
-            wanted.registers() as u16,
+            with_own(named) as u16,
         )?;
         let pace = Pace::of(wanted.pace);
         Ok(HostHeap {
             limit: pace.limit(&heap),
             heap,
+            named: named as u16,
             pace,
             bytes: 0,
             pauses: 0,
@@ -72,6 +76,7 @@ impl HostHeap {
     pub(crate) fn close(self) {
         let HostHeap {
             heap,
+            named: _,
             pace: _,
             limit: _,
             bytes: _,
@@ -153,7 +158,7 @@ impl HostHeap {
     fn act_behind(&mut self, op: LargeOp) -> LargeReply
         requires made { self.old.heap.made < 2 ^ 32 - 1 }
         requires bytes { self.old.bytes ≤ 8388608 * self.old.heap.made }
-        requires op { MayBeCalled (registers_in self.old) op }
+        requires op { MayBeCalled (all_registers_in self.old) op }
         requires ready { ∥ ((h : List LargeItem) × WantsNoPause self.old.heap h op) ∥₁ }
         ensures { (h : List LargeItem) → WantsNoPause self.old.heap h op → Replies self.old self.new h op result }
     {
@@ -170,7 +175,7 @@ impl HostHeap {
     #[inline(always)]
     fn act(&mut self, op: LargeOp) -> LargeReply
         requires room { HasRoom 2 2 self.old }
-        requires op { MayBeCalled (registers_in self.old) op }
+        requires op { MayBeCalled (all_registers_in self.old) op }
         ensures acts { (h : List LargeItem) → IsHeapOf self.old.heap h → Acts self.old self.new h op result }
         ensures serving { IsServing self.new }
     {
@@ -194,7 +199,7 @@ impl HostHeap {
     #[inline(always)]
     pub fn reply(&mut self, op: LargeOp) -> LargeReply
         requires serving { IsServing self.old }
-        requires op { IsQuiet (registers_in self.old) op }
+        requires op { IsQuiet (all_registers_in self.old) op }
         ensures replies { (h : List LargeItem) → IsHeapOf self.old.heap h → Replies self.old self.new h op result }
         ensures serving { IsServing self.new }
     {
@@ -208,7 +213,7 @@ impl HostHeap {
     #[inline(always)]
     pub fn store(&mut self, op: LargeOp) -> LargeReply
         requires serving { IsServing self.old }
-        requires op { IsStoring (registers_in self.old) op }
+        requires op { IsStoring (all_registers_in self.old) op }
         ensures stores { (h : List LargeItem) → IsHostOf self.old h → Stores self.old self.new h op result }
         ensures serving { IsServing self.new }
     {
@@ -220,7 +225,7 @@ impl HostHeap {
     #[inline(always)]
     pub fn make(&mut self, op: LargeOp) -> LargeReply
         requires serving { IsServing self.old }
-        requires op { IsMaking (registers_in self.old) op }
+        requires op { IsMaking (all_registers_in self.old) op }
         ensures makes { (h : List LargeItem) → IsHostOf self.old h → Makes self.old self.new h op result }
         ensures serving { IsServing self.new }
     {

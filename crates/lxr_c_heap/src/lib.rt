@@ -10,10 +10,12 @@ mod crossing;
 mod handle;
 mod host;
 mod looks;
+mod own;
 mod pacing;
 mod settings;
 
 pub use crossing::handles_cross;
 pub use handle::Handle;
 pub use host::{ENDS, Ends, HostHeap};
+pub use own::OwnRegisters;
 pub use settings::Settings;

@@ -5,7 +5,7 @@ ghost use Rattle.lxr_heap.specs.Bulk.{WritesWords};
 ghost use Rattle.lxr_heap.specs.Holding.{IsHeapOf};
 ghost use Rattle.lxr_heap.specs.Looking.{IsLook};
 ghost use Rattle.lxr_c_base.specs.Requests.{register_of as is_register_of};
-ghost use Rattle.lxr_c_heap.specs.Hosting.{IsServing, registers_in};
+ghost use Rattle.lxr_c_heap.specs.Hosting.{IsServing, all_registers_in};
 ghost use Rattle.lxr_c_heap.specs.Keeping.{registers_kept};
 ghost use Rattle.lxr_c_heap.specs.Looking.{Counts, Looks, SeesNil, SeesReply, SeesShape, SeesWords, Writes, counted_by as is_counted_by};
 
@@ -20,9 +20,9 @@ use lxr_layout::Shape;
 
 impl HostHeap {
     /// Writes words over those of the body of what `base` holds, from word `index` on: all of them or none.
-    fn write(&mut self, base: u8, index: u32, from: &[u64]) -> BodyReply
+    pub fn write(&mut self, base: u8, index: u32, from: &[u64]) -> BodyReply
         requires serving { IsServing self.old }
-        requires base { base < registers_in self.old }
+        requires base { base < all_registers_in self.old }
         ensures writes { (h : List LargeItem) → IsHeapOf self.old.heap h → WritesWords self.old.heap self.new.heap h base index from.now result }
         ensures rest { self.new ≡ record self.old { heap = self.new.heap } }
         ensures serving { IsServing self.new }

@@ -1,8 +1,9 @@
 //! What a program in C says of a heap for one thread.
-ghost use Rattle.std.specs.Prelude.{◌≡◌, ◌↔◌, IsTrue};
-ghost use Rattle.lxr_c_heap.specs.Settings.{AreSettings, IsBlockCount, IsKnownSize, IsRegisterCount, registers_of};
+ghost use Rattle.std.specs.Prelude.{◌≡◌, ◌↔◌, ◌≤◌, IsTrue};
+ghost use Rattle.lxr_layout.specs.declared.TheConstants.{REGISTERS as MOST_REGISTERS};
+ghost use Rattle.lxr_c_heap.specs.Settings.{AreSettings, IsBlockCount, IsKnownSize, IsRegisterCount, registers_of, with_own as is_with_own};
 
-use lxr_layout::{MOST_BLOCKS, REGISTERS};
+use lxr_layout::{LEAST_REGISTERS, MOST_BLOCKS, REGISTERS};
 
 /// The bytes of the settings that are known: of later versions this is the least size but for that of version 0.2, and what a shorter one
 /// hasn't is as it was before.
@@ -11,8 +12,8 @@ pub const SETTINGS_BYTES: u64 = 32;
 /// The bytes of the settings of version 0.2, which don't say how many registers a heap has.
 pub const FIRST_SETTINGS_BYTES: u64 = 24;
 
-/// How many registers a heap has at least, and where its settings don't say it.
-pub const LEAST_REGISTERS: u32 = 16;
+/// How many registers of its own the library has behind those that the host names, where there is room for them.
+pub const OWN_REGISTERS: u32 = 2;
 
 /// The settings of a heap, as `lxr_settings` has them: how many bytes they are, how many blocks the heap has, and for bodies, after how
 /// many bytes of new objects a plain pause is due, and how many registers it has. What stands after so many bytes isn't read.
@@ -40,7 +41,17 @@ fn is_block_count(count: u32) -> bool
 fn is_register_count(count: u32) -> bool
     ensures { IsTrue result ↔ IsRegisterCount count }
 {
-    LEAST_REGISTERS <= count && count <= REGISTERS as u32
+    u32::from(LEAST_REGISTERS) <= count && count <= REGISTERS as u32
+}
+
+/// How many registers a heap has whose host names so many: the library's own are behind them, where there is room.
+pub(crate) fn with_own(named: u32) -> u32
+    requires { named ≤ MOST_REGISTERS }
+    ensures own { result ≡ is_with_own named }
+    ensures fits { (named ≤ result) × (result ≤ MOST_REGISTERS) }
+{
+    let all = named + OWN_REGISTERS;
+    if all <= REGISTERS as u32 { all } else { named }
 }
 
 impl Settings {
@@ -51,15 +62,15 @@ impl Settings {
         self.size == SETTINGS_BYTES || self.size == FIRST_SETTINGS_BYTES
     }
 
-    /// How many registers the heap is to have.
+    /// How many registers the host is to name: the fewest where settings of version 0.2 don't say it, or where they say 0.
     pub(crate) fn registers(&self) -> u32
         ensures { result ≡ registers_of self.now }
     {
         if self.size == FIRST_SETTINGS_BYTES {
-            return LEAST_REGISTERS;
+            return u32::from(LEAST_REGISTERS);
         }
         if self.registers == 0 {
-            return LEAST_REGISTERS;
+            return u32::from(LEAST_REGISTERS);
         }
         self.registers
     }

@@ -6,13 +6,14 @@ use Rattle.lxr_large_model.specs.History.{LargeItem}
 use Rattle.lxr_c_base.specs.declared.codes.Code.TheVariants as code
 use Rattle.lxr_c_heap.specs.declared.host.HostHeap.{HostHeap}
 use Rattle.lxr_c_heap.specs.Hosting.{IsHostOf}
+use Rattle.lxr_c_heap.proofs.OperationLemmas.{making_more, quiet_more, storing_more}
 use Rattle.lxr_c_heap.proofs.PacingLemmas.{replied_host}
 use Rattle.lxr_c_many.specs.declared.applying.Applied.{Applied}
 use Rattle.lxr_c_many.specs.declared.applying.Told.{Told}
 use Rattle.lxr_c_many.specs.declared.asked.Asked.{Asked}
 use Rattle.lxr_c_many.specs.declared.asked.Asked.TheVariants as asked
 use Rattle.lxr_c_many.specs.declared.asked.Operation.{Operation}
-use Rattle.lxr_c_many.specs.Applying.{AllAsk, Applies, Asks, Performs, PerformsEntry, all_told, with_told}
+use Rattle.lxr_c_many.specs.Applying.{AllAsk, Applies, Asks, MayBeAsked, Performs, PerformsEntry, all_told, with_told}
 use Rattle.lxr_c_many.proofs.HostLemmas.{makes_host, stores_host}
 
 -- ---- histories
@@ -26,6 +27,16 @@ performs_host x y h k (asked.IsNil register) told is (nil, sees, left, same, tel
 
 pub entry_host : (x y : HostHeap) (h k : List LargeItem) (e : Operation) (told : Told) → IsHostOf x h → PerformsEntry x h e y k told → IsHostOf y k
 entry_host x y h k e told is (a, asks, performs) = performs_host x y h k a told is performs
+
+-- ---- registers
+
+-- what may be asked for of some registers may be asked for of more
+pub asked_more : (m n : ℕ) (a : Asked) → m ≤ n → MayBeAsked m a → MayBeAsked n a
+asked_more m n (asked.Make o) few may = making_more m n o few may
+asked_more m n (asked.Store o) few may = storing_more m n o few may
+asked_more m n (asked.Reply o) few may = quiet_more m n o few may
+asked_more m n (asked.See o) few may = may
+asked_more m n (asked.IsNil register) few may = may
 
 -- ---- entries
 

@@ -12,7 +12,7 @@ use Rattle.lxr_c_heap.proofs.RoomLemmas.{paused_holds, settled_holds}
 
 -- behind the pause that an operation needs
 pub needed_host : (o : LargeOp) (x y : HostHeap) (h k : List LargeItem) → IsHostOf x h → PausesFor o x h y k → IsHostOf y k
-needed_host o x y h k is (inl (collect, needs, paused, same)) = subst (IsHostOf y) (sym same) (paused_host x y h collect paused)
+needed_host o x y h k is (inl (collect, needs, paused, same)) = subst (IsHostOf y) (sym same) (paused_host x y h collect is paused)
 needed_host o x y h k is (inr (none, left, same)) = subst (IsHostOf y) (sym same) (subst (λ (z : HostHeap). IsHostOf z h) (sym left) is)
 
 pub acts_host : (x y : HostHeap) (h : List LargeItem) (o : LargeOp) (r : LargeReply) → IsHostOf x h → (acts : Acts x y h o r) → IsHostOf y (Called o r ∷ acts.history)

@@ -26,7 +26,7 @@ use Rattle.lxr_large_model.specs.History.{LargeItem, Renewed, large_moment, larg
 use Rattle.lxr_large_model.specs.Pauses.{most_logged}
 use Rattle.lxr_heap.specs.declared.heap.Heap.{Heap}
 use Rattle.lxr_heap.specs.Holding.{IsHeapOf}
-use Rattle.lxr_heap.specs.Looking.{one_if}
+use Rattle.lxr_blocks.specs.Masks.{one_if}
 use Rattle.lxr_heap.proofs.HeapLemmas.{one_thread}
 use Rattle.lxr_c_heap.specs.declared.host.Ends.{Ends}
 use Rattle.lxr_c_heap.specs.declared.host.HostHeap.{HostHeap}

@@ -14,6 +14,7 @@ use Rattle.lxr_large_model.specs.declared.LargeReply.{LargeReply}
 use Rattle.lxr_large_model.specs.declared.LargeReply.TheVariants as large_reply
 use Rattle.lxr_large_model.specs.History.{LargeItem, Called, large_moment, large_state}
 use Rattle.lxr_large_model.specs.State.{LargeState}
+use Rattle.lxr_heap.specs.declared.heap.Heap.{Heap}
 use Rattle.lxr_heap.specs.Holding.{IsHeapOf, abstract_after}
 use Rattle.lxr_heap.proofs.HeapLemmas.{one_thread}
 use Rattle.lxr_heap.proofs.MomentLemmas.{one_row, two_rows}
@@ -53,6 +54,13 @@ filled wanted sources words m y k r one follows = let made = one_made r one in s
 
 -- ---- the new object
 
+-- the state has each register that a heap may have
+pub all_registers : (x : Heap) (h : List LargeItem) → IsHeapOf x h → length (large_state h).small.registers ≡ REGISTERS
+all_registers x h is =
+    let rows_are = one_row x.space (abstract_after h is.at) is.rests (one_thread x h is) in
+    let same = ap (λ (z : State). length z.registers) is.state in
+    omega (arith, rows_are, same)
+
 -- what may be done with a new object
 pub record IsNew (sources words : List ℕ) (wanted : Wanted) (y : HostHeap) (k : List LargeItem) : Type 0 where
   pub holds : IsHeapOf y.heap k
@@ -73,7 +81,7 @@ module _ (registers : ℕ) (few : registers ≤ REGISTERS) (sources words : List
   holds : IsHeapOf y.heap k
   holds = replies.heap.holds
 
-  named : next_name g 1 ≡ n
+  pub named : next_name g 1 ≡ n
   named = let e : large_reply.Small (reply.New (next_name g 1)) ≡ large_reply.Small (reply.New n) = holds.legal.1.reply in cc
 
   rows : 1 < length g
@@ -82,16 +90,10 @@ module _ (registers : ℕ) (few : registers ≤ REGISTERS) (sources words : List
       let same = ap (λ (z : State). length z.graph) host.heap.state in
       omega (arith, two, same)
 
-  many : length s.small.registers ≡ REGISTERS
-  many =
-      let rows_are = one_row x.heap.space (abstract_after h host.heap.at) host.heap.rests (one_thread x.heap h host.heap) in
-      let same = ap (λ (z : State). length z.registers) host.heap.state in
-      omega (arith, rows_are, same)
+  pub held : register_at (large_state k).small 1 wanted.dest ≡ Some n
+  held = get_or-set_same s.small.registers (register_index 1 wanted.dest) (Some (next_name g 1)) None (let dest = is.dest in let all = all_registers x.heap h host.heap in omega (arith, dest, all, few)) ∙ ap Some named
 
-  held : register_at (large_state k).small 1 wanted.dest ≡ Some n
-  held = get_or-set_same s.small.registers (register_index 1 wanted.dest) (Some (next_name g 1)) None (let dest = is.dest in let all = many in omega (arith, dest, all, few)) ∙ ap Some named
-
-  there : object_at (large_state k).small.graph n ≡ Some (fresh wanted.shape)
+  pub there : object_at (large_state k).small.graph n ≡ Some (fresh wanted.shape)
   there =
       ap (object_at (with_new g 1 (fresh wanted.shape))) (sym named)
       ∙ object_at-with_new g 1 (fresh wanted.shape) (next_name g 1) rows

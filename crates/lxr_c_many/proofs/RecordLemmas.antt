@@ -10,7 +10,7 @@ use Rattle.lxr_graph.specs.State.{register_at}
 use Rattle.lxr_model.specs.Moments.{Field, Moment, after_call, written_with}
 use Rattle.lxr_model_counting.specs.Distinct.{has_field}
 use Rattle.lxr_model_counting.proofs.StoreLemmas.{written_old}
-use Rattle.lxr_heap.specs.Looking.{one_if}
+use Rattle.lxr_blocks.specs.Masks.{one_if}
 use Rattle.lxr_direct.specs.Operating.{IsToRecord}
 use Rattle.lxr_c_many.specs.Recording.{is_to_record, to_record}
 

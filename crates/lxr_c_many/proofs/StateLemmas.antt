@@ -23,7 +23,7 @@ use Rattle.lxr_c_many.specs.Steps.{HasReferences, HasWords}
 -- ---- replies
 
 -- what has a field is an object
-word_object : (f : Option Object) (i : ℕ) → i + 1 ≤ length (values_of f) → (o : Object) × (f ≡ Some o) × (i < length o.values)
+pub word_object : (f : Option Object) (i : ℕ) → i + 1 ≤ length (values_of f) → (o : Object) × (f ≡ Some o) × (i < length o.values)
 word_object None i few = absurd (omega (arith, few))
 word_object (Some o) i few = (o, refl, omega (arith, few))
 

@@ -16,7 +16,7 @@ use Rattle.lxr_large_model.specs.Pauses.{most_logged}
 use Rattle.lxr_heap.specs.declared.heap.Heap.{Heap}
 use Rattle.lxr_heap.specs.Acting.{WantsNoPause}
 use Rattle.lxr_heap.specs.Holding.{IsHeapOf, abstract_after}
-use Rattle.lxr_heap.specs.Looking.{one_if}
+use Rattle.lxr_blocks.specs.Masks.{one_if}
 use Rattle.lxr_c_heap.specs.declared.host.HostHeap.{HostHeap}
 use Rattle.lxr_c_heap.specs.Hosting.{Replies}
 use Rattle.lxr_c_many.specs.Fields.{store_of}

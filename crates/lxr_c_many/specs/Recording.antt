@@ -6,7 +6,7 @@ use Rattle.lxr_graph.specs.Names.{has}
 use Rattle.lxr_graph.specs.State.{register_at}
 use Rattle.lxr_model.specs.Moments.{Moment}
 use Rattle.lxr_model_counting.specs.Distinct.{has_field}
-use Rattle.lxr_heap.specs.Looking.{one_if}
+use Rattle.lxr_blocks.specs.Masks.{one_if}
 use Rattle.lxr_large_model.specs.History.{LargeItem, large_moment}
 use Rattle.lxr_large_model.specs.Pauses.{most_logged}
 

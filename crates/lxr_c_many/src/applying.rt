@@ -2,7 +2,7 @@
 ghost use Rattle.std.specs.Prelude.{◌≡◌, Some, Ok, List};
 ghost use Rattle.lxr_large_model.specs.History.{LargeItem};
 ghost use Rattle.lxr_c_base.specs.Codes.{flag as is_flag};
-ghost use Rattle.lxr_c_heap.specs.Hosting.{IsHostOf, IsServing, registers_in};
+ghost use Rattle.lxr_c_heap.specs.Hosting.{IsHostOf, IsServing, all_registers_in, registers_in};
 ghost use Rattle.lxr_c_many.specs.declared.applying.Told.{Told as ToldOf};
 ghost use Rattle.lxr_c_many.specs.Applying as applying;
 ghost use Rattle.lxr_c_many.specs.Applying.{AllAsk, Applies, AppliesAll, Asks, MayBeAsked, Performs, PerformsEntry, all_told, with_told};
@@ -37,7 +37,7 @@ fn flag(test: bool) -> u64
 
 /// The word that a reply tells, if it does.
 #[inline(always)]
-pub(crate) fn word_of(reply: LargeReply) -> Option<u64>
+pub fn word_of(reply: LargeReply) -> Option<u64>
     ensures { result ≡ applying.word_of reply }
 {
     match reply {
@@ -58,13 +58,14 @@ fn told_by(reply: LargeReply) -> Told
     }
 }
 
-/// Does what is asked for.
+/// Does what is asked for, as the call of its name does it. Registers of the library's own may be asked for too.
 #[inline(always)]
-fn perform(heap: &mut HostHeap, asked: Asked) -> Told
+pub fn perform(heap: &mut HostHeap, asked: Asked) -> Told
     requires serving { IsServing heap.old }
-    requires asked { MayBeAsked (registers_in heap.old) asked }
+    requires asked { MayBeAsked (all_registers_in heap.old) asked }
     ensures performs { (h : List LargeItem) → IsHostOf heap.old h → (k : List LargeItem) × Performs heap.old h asked heap.new k result }
     ensures registers { registers_in heap.new ≡ registers_in heap.old }
+    ensures all { all_registers_in heap.new ≡ all_registers_in heap.old }
     ensures serving { IsServing heap.new }
 {
     match asked {
@@ -89,7 +90,7 @@ fn perform_at(heap: &mut HostHeap, entry: &mut Operation) -> Code
     ensures registers { registers_in heap.new ≡ registers_in heap.old }
     ensures serving { IsServing heap.new }
 {
-    match asked_of(heap.heap.registers(), *entry) {
+    match asked_of(heap.named, *entry) {
         Err(_) => unreachable!(),
         Ok(asked) => {
             let told = perform(heap, asked);

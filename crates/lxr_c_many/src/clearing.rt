@@ -22,7 +22,7 @@ fn clear_from(heap: &mut HostHeap, first: u16)
     ensures registers { registers_in heap.new ≡ registers_in heap.old }
     ensures serving { IsServing heap.new }
 {
-    for register in first..heap.heap.registers() {
+    for register in first..heap.named {
         nil_at(heap, register as u8);
     }
 }

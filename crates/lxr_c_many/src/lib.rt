@@ -12,9 +12,9 @@ mod references;
 mod steps;
 mod words;
 
-pub use applying::{Applied, apply};
-pub use asked::Operation;
+pub use applying::{Applied, Told, apply, perform, word_of};
+pub use asked::{Asked, Operation};
 pub use clearing::registers_in_use;
 pub use making::new_with;
 pub use references::{load_many, store_many};
-pub use words::{get_many, put_many};
+pub use words::{get_many, put_many, read, write};

@@ -5,7 +5,7 @@ ghost use Rattle.lxr_layout.specs.Places.{IsPlace, field_word as is_field_word};
 ghost use Rattle.lxr_image.specs.Spaces.{IsSpace, tables_of};
 ghost use Rattle.lxr_large_model.specs.History.{LargeItem, large_state};
 ghost use Rattle.lxr_heap.specs.Holding.{IsHeapOf};
-ghost use Rattle.lxr_heap.specs.Looking.{one_if};
+ghost use Rattle.lxr_blocks.specs.Masks.{one_if};
 ghost use Rattle.lxr_c_heap.specs.Hosting.{IsHostOf, IsServing, registers_in};
 ghost use Rattle.lxr_c_many.specs.Recording.{LogIsShort, unlogged_bits};
 ghost use Rattle.lxr_c_many.specs.Steps.{HasReferences, PausesForStores};

@@ -50,7 +50,7 @@ pub(crate) fn write_all(heap: &mut HostHeap, base: u8, first: u16, words: &[u64]
 
 /// Reads data words of what `base` holds, from `first` on, as many as there is room for: all of them or none.
 #[inline(always)]
-fn read(heap: &LargeHeap, base: u8, first: u32, words: &mut [u64]) -> BodyReply
+pub fn read(heap: &LargeHeap, base: u8, first: u32, words: &mut [u64]) -> BodyReply
     requires holds { ∥ ((h : List LargeItem) × IsHeapOf heap.now h) ∥₁ }
     ensures { (h : List LargeItem) → IsHeapOf heap.now h
         → (result ≡ comes_to (words_in (large_state h) base) first (length words.old)) × (words.new ≡ unwrap_or (words_from (words_in (large_state h) base) first (length words.old)) words.old) }
@@ -66,7 +66,7 @@ fn read(heap: &LargeHeap, base: u8, first: u32, words: &mut [u64]) -> BodyReply
 
 /// Writes over data words of what `base` holds, from `first` on: all of them or none.
 #[inline(always)]
-fn write(heap: &mut HostHeap, base: u8, first: u32, words: &[u64]) -> BodyReply
+pub fn write(heap: &mut HostHeap, base: u8, first: u32, words: &[u64]) -> BodyReply
     requires serving { IsServing heap.old }
     requires base { base < registers_in heap.old }
     ensures writes { (h : List LargeItem) → IsHeapOf heap.old.heap h → PutsWords first words.now heap.old heap.new h base result }

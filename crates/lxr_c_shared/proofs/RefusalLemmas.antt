@@ -3,7 +3,7 @@ use Rattle.std.proofs.Common.{◌≡◌, true, ⊎_elim}
 use Rattle.lxr_graph.specs.declared.Op.{Op}
 use Rattle.lxr_core.specs.declared.actors.AnyActor.{AnyActor}
 use Rattle.lxr_core.specs.declared.actors.AnyActor.TheVariants as any
-use Rattle.lxr_shared_heap.specs.Stations.{IsOpen, Refuses, is_mutator}
+use Rattle.lxr_stations.specs.Stations.{IsOpen, Refuses, is_mutator}
 use Rattle.lxr_c_shared.specs.Passing.{IsUsedUp}
 
 pub used_up : (a : AnyActor) (o : Op) → is_mutator a ≡ true → (¬ IsOpen a) → Refuses a o → IsUsedUp a o

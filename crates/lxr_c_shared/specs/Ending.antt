@@ -1,6 +1,6 @@
 -- What a station leaves as it ends.
 use Rattle.std.specs.Prelude.{Option, None, Some}
-use Rattle.lxr_shared_heap.specs.Stations.{Stationed}
+use Rattle.lxr_stations.specs.Stations.{Stationed}
 use Rattle.lxr_c_shared.specs.declared.owned.Owned.{Owned}
 use Rattle.lxr_c_shared.specs.declared.owned.Owned.TheVariants as owned
 use Rattle.lxr_c_shared.specs.Holding.{MayHold}

@@ -8,13 +8,13 @@ use Rattle.lxr_large_model.specs.declared.LargeReply.TheVariants as large_reply
 use Rattle.lxr_mutator.specs.Mutators.{IsOperation}
 use Rattle.lxr_core.specs.declared.actors.AnyActor.{AnyActor}
 use Rattle.lxr_core.specs.declared.actors.AnyActor.TheVariants as any
-use Rattle.lxr_shared_heap.specs.declared.station.Answer.{Answer}
-use Rattle.lxr_shared_heap.specs.declared.station.Answer.TheVariants as answer
-use Rattle.lxr_shared_heap.specs.declared.station.NotOut.{NotOut}
-use Rattle.lxr_shared_heap.specs.declared.station.NotOut.TheVariants as kept
+use Rattle.lxr_stations.specs.declared.station.Answer.{Answer}
+use Rattle.lxr_stations.specs.declared.station.Answer.TheVariants as answer
+use Rattle.lxr_stations.specs.declared.station.NotOut.{NotOut}
+use Rattle.lxr_stations.specs.declared.station.NotOut.TheVariants as kept
 use Rattle.lxr_shared_heap.specs.Heaps.{Heaped, IsKept, IsPassOf}
-use Rattle.lxr_shared_heap.specs.Stations.{HasAnswered, HasGoneOn, HasNoRoom, Helps, IsOpen, IsSameStation, Stationed, is_mutator, newest_of, registers_of}
-use Rattle.lxr_shared_heap.specs.Wanting.{HasEnded, IsHeldUp}
+use Rattle.lxr_stations.specs.Stations.{HasAnswered, HasGoneOn, HasNoRoom, Helps, IsOpen, IsSameStation, Stationed, is_mutator, newest_of, registers_of}
+use Rattle.lxr_stations.specs.Wanting.{HasEnded, IsHeldUp}
 use Rattle.lxr_c_base.specs.declared.codes.Code.{Code}
 use Rattle.lxr_c_base.specs.declared.codes.Code.TheVariants as code
 use Rattle.lxr_c_shared.specs.declared.owned.Owned.{Owned}

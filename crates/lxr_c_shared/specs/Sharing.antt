@@ -1,6 +1,6 @@
 -- What calls do at a heap that threads share.
 use Rattle.std.specs.Prelude.{◌≡◌, ◌↔◌, ◌⊎◌, ℕ, Bool, true, false, ◌/◌, ◌<◌, ◌==◌, ◌||◌, ◌&&◌, nat_lt, if◌then◌else◌, Option, None, Some, List, length, Result, Ok, Err}
-use Rattle.lxr_layout.specs.declared.TheConstants.{REGISTERS}
+use Rattle.lxr_layout.specs.declared.TheConstants.{LEAST_REGISTERS, REGISTERS}
 use Rattle.lxr_graph.specs.declared.report.Kind.{Kind}
 use Rattle.lxr_graph.specs.declared.report.Kind.TheVariants as kind
 use Rattle.lxr_graph.specs.History.{Item, PauseReport}
@@ -31,9 +31,9 @@ use Rattle.lxr_c_shared.specs.Holding.{MayHold}
 abbrev pub evacuate_of : Wishes → Option ℕ
 evacuate_of w = if w.size == WISHES_BYTES then Some w.evacuate else (if w.size == FIRST_WISHES_BYTES then Some (w.blocks / 8) else None)
 
--- how many registers each thread may name: sixteen where settings of version 0.2 don't say it, or where they say 0
+-- how many registers each thread may name: the fewest where settings of version 0.2 don't say it, or where they say 0
 abbrev pub registers_of : Wishes → ℕ
-registers_of w = if w.size == WISHES_BYTES && nat_lt 0 w.registers then w.registers else 16
+registers_of w = if w.size == WISHES_BYTES && nat_lt 0 w.registers then w.registers else LEAST_REGISTERS
 
 -- The settings that are wished for, where so many blocks are to be evacuated; none where there are more threads or helpers than any heap has, or more
 -- registers than any thread. No names are told.

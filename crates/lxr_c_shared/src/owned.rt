@@ -29,7 +29,7 @@ pub struct SealedStation {
 }
 
 impl Model for SealedStation {
-    ghost use Rattle.lxr_shared_heap.specs.Stations.{Stationed};
+    ghost use Rattle.lxr_stations.specs.Stations.{Stationed};
 
     ghost Value = { Stationed };
 

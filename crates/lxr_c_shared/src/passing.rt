@@ -2,7 +2,7 @@
 ghost use Rattle.std.specs.Prelude.{◌≡◌, ◌≤◌, Some, Err, IfErr, IfOk};
 ghost use Rattle.lxr_layout.specs.declared.TheConstants.{REGISTERS};
 ghost use Rattle.lxr_graph.specs.declared.Op.{Op as OpOf};
-ghost use Rattle.lxr_shared_heap.specs.Stations.{Refuses};
+ghost use Rattle.lxr_stations.specs.Stations.{Refuses};
 ghost use Rattle.lxr_c_shared.specs.Ending.{homecoming_in};
 ghost use Rattle.lxr_c_shared.specs.Holding.{At};
 ghost use Rattle.lxr_c_shared.specs.Passing.{Answers, AnswersPass, ClosesStation, ComesHome, HelpsBy, HelpsPass, IsNotSent, IsRefusal, IsSentBy, LetsOut, LetsOutOf, Operates, Orders, SeesWanted, SendsPass, is_post, registers_in, not_out_code as is_not_out_code, only as is_only, sent_code as is_sent_code, told_by as is_told_by, told_going as is_told_going, told_newest as is_told_newest, word_of as is_word_of};

@@ -2,7 +2,7 @@
 ghost use Rattle.std.specs.Prelude.{◌≡◌};
 ghost use Rattle.lxr_c_shared.specs.Sharing.{evacuate_of as is_evacuate_of, registers_of as is_registers_of, settings_of as is_settings_of};
 
-use lxr_layout::REGISTERS;
+use lxr_layout::{LEAST_REGISTERS, REGISTERS};
 use lxr_shared_heap::Settings;
 
 /// The bytes of the settings that are known.
@@ -41,14 +41,14 @@ fn evacuate_of(wishes: &Wishes) -> Option<u32>
     }
 }
 
-/// How many registers each thread is to have that it may name: sixteen where settings of version 0.2 don't say it, or where they say 0.
+/// How many registers each thread is to have that it may name: the fewest where settings of version 0.2 don't say it, or where they say 0.
 fn registers_of(wishes: &Wishes) -> u32
     ensures { result ≡ is_registers_of wishes.now }
 {
     if wishes.size == WISHES_BYTES && wishes.registers > 0 {
         wishes.registers
     } else {
-        16
+        u32::from(LEAST_REGISTERS)
     }
 }
 

@@ -4,7 +4,7 @@ use Rattle.std.specs.Prelude.{◌≡◌, ℕ, Option, Some, None, List, [], ◌�
 use Rattle.lxr_layout.specs.declared.Name.{Name}
 use Rattle.lxr_layout.specs.Spaces.{all_regions, region_begin}
 use Rattle.lxr_graph.specs.History.{Item}
-use Rattle.lxr_image.specs.Settled.{KeepsLines}
+use Rattle.lxr_image.specs.Settled.{KeepsOpenLines}
 use Rattle.lxr_image.specs.Tables.{tables_in}
 use Rattle.lxr_model.specs.Moments.{Field}
 use Rattle.lxr_actor.specs.declared.Core.{Core}
@@ -99,4 +99,4 @@ EpochInvariantHolds = (b : Beginning) (execution : Execution) (schedule : List E
 -- and each such schedule keeps what is known of lines
 abbrev pub EpochKeepsLines : Type 0
 EpochKeepsLines = (b : Beginning) (execution : Execution) → HoldsExecution b execution → (schedule : List Event)
-    → KeepsLines (tables_in (limits_of b) execution.core.words) (tables_in (limits_of b) (run any_machine execution.core schedule).words)
+    → KeepsOpenLines (tables_in (limits_of b) execution.core.words) (tables_in (limits_of b) (run any_machine execution.core schedule).words)

@@ -24,8 +24,8 @@ pub fn epoch_invariant_holds()
     ensures { EpochInvariantHolds }
 {}
 
-/// No schedule of an epoch moves a line: where objects begin, which lines are out, the states of blocks, and each count that is no
-/// object's stay.
+/// Which lines are open stays through each schedule of an epoch: where objects begin, which lines are out, the states of blocks, and each
+/// count that is no object's.
 pub fn epoch_keeps_lines()
     ensures { EpochKeepsLines }
 {}

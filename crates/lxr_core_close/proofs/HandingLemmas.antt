@@ -11,7 +11,7 @@ use Rattle.lxr_image.specs.Tables.{Tables, changed}
 use Rattle.lxr_image.specs.Spaces.{Turns, tables_of}
 use Rattle.lxr_image.proofs.SpaceLemmas.{still_space}
 use Rattle.lxr_blocks.specs.declared.states.BlockState.TheVariants.{Free, Partly, Whole}
-use Rattle.lxr_blocks.specs.Kept.{IsFreeLine}
+use Rattle.lxr_image.specs.Settled.{IsFreeLine}
 use Rattle.lxr_blocks.proofs.HandedLemmas.{between, outside}
 use Rattle.lxr_blocks.proofs.KeptLemmas.{free_line_is_told, out_keeps}
 use Rattle.lxr_graph.proofs.NameSets.{not_both}

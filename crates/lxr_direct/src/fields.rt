@@ -33,7 +33,7 @@ pub fn load(space: &mut Space, thread: u8, dest: u8, base: u8, index: u16) -> Re
 
 /// Reference `index` of the object that `base` holds becomes what `source` holds; what it held at the last pause is recorded by the first
 /// store to it.
-#[inline(always)]
+#[inline(never)]
 pub fn store(space: &mut Space, thread: u8, base: u8, index: u16, source: u8) -> Operated
     requires state { CanOperate space.old thread }
     ensures { (g : AbstractState) (serial : ℕ) → MayOperate space.old g thread serial → Operates space.old space.new g thread (op.Store base index source) result }
@@ -53,7 +53,7 @@ pub fn store(space: &mut Space, thread: u8, base: u8, index: u16, source: u8) ->
 }
 
 /// Data word `index` of the object that `base` holds becomes `value`.
-#[inline(always)]
+#[inline(never)]
 pub fn put(space: &mut Space, thread: u8, base: u8, index: u16, value: u64) -> Reply
     requires state { CanOperate space.old thread }
     ensures { (g : AbstractState) (serial : ℕ) → MayOperate space.old g thread serial → IsDone space.old space.new g thread (op.Put base index value) result }

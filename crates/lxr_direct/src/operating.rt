@@ -54,7 +54,7 @@ fn end(space: &mut Space, thread: u8)
 }
 
 /// Register `dest` gets a new object, which is the thread's next one.
-#[inline(always)]
+#[inline(never)]
 fn make(space: &mut Space, thread: u8, serial: u32, dest: u8, shape: Shape) -> Operated
     requires state { (g : AbstractState) × MayOperate space.old g thread serial }
     requires dest { dest < space.old.limits.registers }

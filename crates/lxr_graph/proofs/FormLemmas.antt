@@ -1,15 +1,14 @@
--- The test of an operation's form decides whether it is well formed, and what is formed for fewer registers is so for more.
+-- The test of an operation's form decides whether it is formed so, and what is formed for fewer registers is so for more.
 use Rattle.std.proofs.Common.{◌<◌, ◌≤◌, ℕ, arith, refl}
 use Rattle.std.specs.Prelude.{◌&&◌, Decides, nat_le, nat_lt}
 use Rattle.std.proofs.lemmas.Bool.{leb-true, le-leb}
 use Rattle.std.proofs.lemmas.Bool.Decides.{Decides-and, Decides-ltb}
-use Rattle.lxr_layout.specs.declared.TheConstants.{REGISTERS}
 use Rattle.lxr_layout.specs.declared.Shape.{Shape}
 use Rattle.lxr_layout.specs.Objects.{FitsShape}
 use Rattle.lxr_graph.specs.declared.Op.{Op}
 use Rattle.lxr_graph.specs.declared.Op.TheVariants as op
-use Rattle.lxr_graph.specs.Forms.{fits_shape, is_formed_for, is_well_formed}
-use Rattle.lxr_graph.specs.Step.{IsFormedFor, IsWellFormed}
+use Rattle.lxr_graph.specs.Forms.{fits_shape, is_formed_for}
+use Rattle.lxr_graph.specs.Step.{IsFormedFor}
 
 at_most : (a b : ℕ) → Decides (nat_le a b) (a ≤ b)
 at_most a b = (leb-true a b, le-leb a b)
@@ -39,9 +38,6 @@ formed_for n (op.Same left right) = registers n left right
 formed_for n op.Pause = (λ e. tt, λ h. refl)
 formed_for n op.Collect = (λ e. tt, λ h. refl)
 formed_for n op.End = (λ e. tt, λ h. refl)
-
-pub well_formed : (o : Op) → Decides (is_well_formed o) (IsWellFormed o)
-well_formed o = formed_for REGISTERS o
 
 -- an operation for fewer registers is one for more
 pub formed_more : (m n : ℕ) (o : Op) → m ≤ n → IsFormedFor m o → IsFormedFor n o

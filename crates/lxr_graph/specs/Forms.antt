@@ -1,6 +1,5 @@
 -- Whether an operation is well formed, as a test.
 use Rattle.std.specs.Prelude.{ℕ, Bool, true, ◌&&◌, nat_le, nat_lt}
-use Rattle.lxr_layout.specs.declared.TheConstants.{REGISTERS}
 use Rattle.lxr_layout.specs.declared.Shape.{Shape}
 use Rattle.lxr_graph.specs.declared.Op.{Op}
 use Rattle.lxr_graph.specs.declared.Op.TheVariants as op
@@ -24,7 +23,3 @@ is_formed_for n (op.Same left right) = nat_lt left n && nat_lt right n
 is_formed_for n op.Pause = true
 is_formed_for n op.Collect = true
 is_formed_for n op.End = true
-
--- an operation names registers that there are, and its shape fits
-abbrev pub is_well_formed : Op → Bool
-is_well_formed o = is_formed_for REGISTERS o

@@ -30,11 +30,11 @@ use Rattle.lxr_heap.proofs.StayLemmas.{stay_changed, stay_same}
 -- ---- words of one body
 
 -- no word written over others
-over_none : (i : ℕ) (xs : List ℕ) → overwritten i [] xs ≡ xs
+pub over_none : (i : ℕ) (xs : List ℕ) → overwritten i [] xs ≡ xs
 over_none i xs = let same : i + 0 ≡ i = omega arith in ap (λ k. take i xs ++ drop k xs) same ∙ take-append-drop i xs
 
 -- the first of some words, and then the others
-over_first : (i w : ℕ) (ws xs : List ℕ) → i < length xs → overwritten (i + 1) ws (slice_set xs i w) ≡ overwritten i (w ∷ ws) xs
+pub over_first : (i w : ℕ) (ws xs : List ℕ) → i < length xs → overwritten (i + 1) ws (slice_set xs i w) ≡ overwritten i (w ∷ ws) xs
 over_first i w ws xs within =
     let index : i + 1 + length ws ≡ i + suc (length ws) = omega arith in
     ap (λ front. front ++ (ws ++ drop (i + 1 + length ws) (slice_set xs i w))) (take_more_set xs i w within)

@@ -1,5 +1,6 @@
 -- What is told of a register and of what it holds, by the state that a heap stands for; and how many blocks are Free.
-use Rattle.std.proofs.Common.{◌≡◌, ℕ, suc, ◌+◌, ◌≤◌, refl, sym, ap, ◌∙◌, arith, Bool, true, false, cond, List, [], ◌∷◌, length, Option, Some, None}
+use Rattle.std.proofs.Common.{◌≡◌, ℕ, zero, suc, ◌+◌, refl, sym, ap, ◌∙◌, arith, Bool, true, false, cond, List, [], ◌∷◌, length, Option, Some, None}
+use Rattle.std.specs.Prelude.{◌==◌, if◌then◌else◌}
 use Rattle.std.proofs.lemmas.List.{length-append}
 use Rattle.lxr_layout.specs.declared.Name.{Name}
 use Rattle.lxr_layout.specs.declared.Shape.{Shape}
@@ -7,9 +8,11 @@ use Rattle.lxr_graph.specs.declared.Op.{Op}
 use Rattle.lxr_graph.specs.declared.Reply.{Reply}
 use Rattle.lxr_graph.specs.State.{State, object_at, register_at}
 use Rattle.lxr_graph.specs.Step.{step}
+use Rattle.lxr_image.specs.Settled.{free_below}
 use Rattle.lxr_image.specs.Tables.{Tables}
 use Rattle.lxr_blocks.specs.Listing.{block_frees, joined, listed_frees, lists_block}
-use Rattle.lxr_blocks.specs.States.{state_in}
+use Rattle.lxr_blocks.specs.declared.states.BlockState.TheVariants.{Chosen, Free, Partly, Whole, World}
+use Rattle.lxr_blocks.specs.States.{state_in, state_of}
 use Rattle.lxr_direct.specs.Operating.{named_shape, shape_found}
 use Rattle.lxr_large_model.specs.declared.LargeOp.TheVariants as large_op
 use Rattle.lxr_large_model.specs.declared.LargeReply.TheVariants as large_reply
@@ -20,7 +23,7 @@ use Rattle.lxr_large_bodies.specs.Bodies.{Body, blocks_in, body_of}
 use Rattle.lxr_heap.specs.declared.heap.Heap.{Heap}
 use Rattle.lxr_heap.specs.Bulk.{base_held}
 use Rattle.lxr_heap.specs.Holding.{IsHeapOf, IsWhole}
-use Rattle.lxr_heap.specs.Looking.{body_blocks, one_if, shape_held}
+use Rattle.lxr_heap.specs.Looking.{body_blocks, shape_held}
 use Rattle.lxr_heap.proofs.BlockLemmas.{found_whole}
 use Rattle.lxr_heap.proofs.BodyLemmas.{words_of, words_same}
 use Rattle.lxr_heap.proofs.BulkLemmas.{base_is}
@@ -64,20 +67,26 @@ small_reply x h is o r told = ap large_reply.Small (sym (told ∙ ap (λ (s : St
 
 -- ---- Free blocks
 
-pub frees_none : (t : Tables) → length (listed_frees t 0) ≡ 0
-unfolding joined
-frees_none t = refl
+one_listed : (b : ℕ) (c : Bool) → length (cond c (b ∷ []) []) ≡ cond c 1 0
+one_listed b true = refl
+one_listed b false = refl
 
-pub frees_more : (t : Tables) (b : ℕ) → length (listed_frees t (b + 1)) ≡ length (listed_frees t b) + one_if (lists_block (state_in t b))
-unfolding joined
-frees_more t b =
-    let next : b + 1 ≡ suc b = omega arith in
-    rw next (length-append (joined (block_frees t) b) (block_frees t b) ∙ ap (λ k. length (joined (block_frees t) b) + k) (one (lists_block (state_in t b))))
+-- a block is listed where its state is that of a Free one
+listed_where_free : (n : ℕ) → lists_block (state_of n) ≡ (n == 0)
+listed_where_free n = told (n == 0) (n == 1) (n == 2) (n == 3)
   where
-    one : (c : Bool) → length (cond c (b ∷ []) []) ≡ one_if c
-    one true = refl
-    one false = refl
+    told : (a b c d : Bool) → lists_block (if a then Free else (if b then Partly else (if c then Whole else (if d then Chosen else World)))) ≡ a
+    told true b c d = refl
+    told false true c d = refl
+    told false false true d = refl
+    told false false false true = refl
+    told false false false false = refl
 
-pub one_at_most : (c : Bool) → one_if c ≤ 1
-one_at_most true = omega arith
-one_at_most false = omega arith
+-- so as many blocks are listed as are Free
+pub frees_are_listed : (t : Tables) (blocks : ℕ) → free_below t blocks ≡ length (listed_frees t blocks)
+unfolding free_below joined
+frees_are_listed t zero = refl
+frees_are_listed t (suc b) =
+    ap (λ k. k + (if t.states b == 0 then 1 else 0)) (frees_are_listed t b)
+    ∙ ap (λ x. length (joined (block_frees t) b) + (if x then 1 else 0)) (sym (listed_where_free (t.states b)))
+    ∙ sym (length-append (joined (block_frees t) b) (block_frees t b) ∙ ap (λ k. length (joined (block_frees t) b) + k) (one_listed b (lists_block (state_in t b))))

@@ -1,5 +1,5 @@
 -- What a heap tells of what a register holds.
-use Rattle.std.specs.Prelude.{ℕ, ◌/◌, ⊤, Bool, true, false, Option, Some, None, List, length}
+use Rattle.std.specs.Prelude.{ℕ, ◌/◌, ⊤, Option, Some, None, List, length}
 use Rattle.lxr_layout.specs.declared.Name.{Name}
 use Rattle.lxr_layout.specs.declared.Shape.{Shape}
 use Rattle.lxr_layout.specs.declared.TheConstants.{WORDS_IN_BLOCK}
@@ -32,8 +32,3 @@ body_blocks (Some words) = length words / WORDS_IN_BLOCK
 abbrev pub shape_held : LargeState → Option Name → Option (Shape × ℕ)
 shape_held s None = None
 shape_held s (Some n) = Some (shape_found (object_at s.small.graph n), body_blocks (body_of s.large n))
-
--- one where a test holds
-abbrev pub one_if : Bool → ℕ
-one_if true = 1
-one_if false = 0

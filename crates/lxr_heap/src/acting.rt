@@ -66,6 +66,7 @@ fn act_small(heap: &mut Heap, op: Op) -> Acted
 }
 
 /// Register `dest` gets a new large object, whose body has so many blocks.
+#[inline(never)]
 fn make_large(heap: &mut Heap, dest: u8, blocks: u32) -> Acted
     requires holds { (h : List LargeItem) × IsHeapOf heap.old h }
     requires made { heap.old.made < 2 ^ 32 - 1 }

@@ -16,7 +16,7 @@ mod renewing;
 mod telling;
 
 ghost use Rattle.std.specs.Prelude.{◌≡◌, ◌↔◌, ◌+◌, ◌-◌, ◌^◌, ◌<◌, ◌≤◌, IfOk, IsTrue, List, [], None, length, unwrap_or};
-ghost use Rattle.lxr_layout.specs.declared.TheConstants.{MOST_BLOCKS, REGISTERS};
+ghost use Rattle.lxr_layout.specs.declared.TheConstants.{LEAST_REGISTERS, MOST_BLOCKS, REGISTERS};
 ghost use Rattle.lxr_graph.specs.State.{register_at};
 ghost use Rattle.lxr_image.specs.Spaces.{tables_of};
 ghost use Rattle.lxr_blocks.specs.Listing.{listed_frees};
@@ -75,7 +75,7 @@ impl LargeHeap {
     ) -> Result<LargeHeap, AllocError>
         requires blocks { (1 ≤ blocks) × (blocks ≤ MOST_BLOCKS) }
         requires bodies { (1 ≤ bodies) × (bodies ≤ MOST_BLOCKS) }
-        requires registers { (16 ≤ registers) × (registers ≤ REGISTERS) }
+        requires registers { (LEAST_REGISTERS ≤ registers) × (registers ≤ REGISTERS) }
         ensures { IfOk result (λ heap. IsOpenedHeap heap blocks bodies registers) }
     {
         let heap = opening::open(alloc, blocks, bodies, registers)?;

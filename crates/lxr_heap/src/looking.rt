@@ -2,19 +2,18 @@
 ghost use Rattle.std.specs.Prelude.{◌≡◌, ◌↔◌, ℕ, ◌+◌, ◌<◌, IsTrue, List, None, length};
 ghost use Rattle.lxr_graph.specs.State.{register_at};
 ghost use Rattle.lxr_image.specs.Spaces.{IsSpace, tables_of};
-ghost use Rattle.lxr_blocks.specs.Listing.{listed_frees, lists_block};
+ghost use Rattle.lxr_blocks.specs.Listing.{listed_frees};
 ghost use Rattle.lxr_large_model.specs.Full.{kept_names};
 ghost use Rattle.lxr_large_model.specs.declared.LargeOp.TheVariants as large_op;
 ghost use Rattle.lxr_large_model.specs.declared.LargeReply.TheVariants as large_reply;
 ghost use Rattle.lxr_large_model.specs.History.{LargeItem, large_moment, large_state};
 ghost use Rattle.lxr_large_model.specs.Step.{IsLargeReply};
 ghost use Rattle.lxr_heap.specs.Holding.{IsHeapOf};
-ghost use Rattle.lxr_heap.specs.Looking.{IsLook, IsSmallLook, one_if, shape_held};
+ghost use Rattle.lxr_heap.specs.Looking.{IsLook, IsSmallLook, shape_held};
 
 use crate::MUTATOR;
 use crate::acting::got_reply;
 use crate::heap::Heap;
-use lxr_blocks::{BlockState, state};
 use lxr_direct::{get, is_nil as is_nil_in, name_in, object_in, same};
 use lxr_graph::{Op, Reply};
 use lxr_image::Space;
@@ -100,24 +99,10 @@ pub(crate) fn live(heap: &Heap) -> u32
     heap.left + young(heap)
 }
 
-/// One for a block that is Free, and none for another.
-fn one_if_free(state: BlockState) -> u32
-    ensures { result ≡ one_if (lists_block state) }
-{
-    match state {
-        BlockState::Free => 1,
-        _ => 0,
-    }
-}
-
 /// How many blocks are Free.
 pub(crate) fn free_blocks(space: &Space) -> u32
     requires { IsSpace space.now }
     ensures { result ≡ length (listed_frees (tables_of space.now) space.now.limits.blocks) }
 {
-    let mut free = 0;
-    for block in 0..space.limits.blocks {
-        free += one_if_free(state(space, block));
-    }
-    free
+    space.free_blocks()
 }

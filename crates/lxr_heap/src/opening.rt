@@ -1,6 +1,6 @@
 //! How a heap is opened.
 ghost use Rattle.std.specs.Prelude.{◌≤◌, IfOk};
-ghost use Rattle.lxr_layout.specs.declared.TheConstants.{MOST_BLOCKS, REGISTERS};
+ghost use Rattle.lxr_layout.specs.declared.TheConstants.{LEAST_REGISTERS, MOST_BLOCKS, REGISTERS};
 ghost use Rattle.lxr_heap.specs.Holding.{IsOpenedHeap};
 
 use crate::MUTATOR;
@@ -22,7 +22,7 @@ pub(crate) fn open(
 ) -> Result<Heap, AllocError>
     requires blocks { (1 ≤ blocks) × (blocks ≤ MOST_BLOCKS) }
     requires bodies { (1 ≤ bodies) × (bodies ≤ MOST_BLOCKS) }
-    requires registers { (16 ≤ registers) × (registers ≤ REGISTERS) }
+    requires registers { (LEAST_REGISTERS ≤ registers) × (registers ≤ REGISTERS) }
     ensures { IfOk result (λ heap. IsOpenedHeap heap blocks bodies registers) }
 {
     let limits = Limits {

@@ -1,10 +1,12 @@
 -- The highest number of each group, where a block's number changes.
 use Rattle.std.proofs.Common.{◌≡◌, ◌≢◌, ℕ, ◌+◌, ◌-◌, ◌*◌, ◌/◌, ◌<◌, ◌≤◌, sym, ap, ◌∙◌, inl, inr, arith, List, length, take, drop, replicate}
-use Rattle.std.specs.Prelude.{slice_index, slice_set}
+use Rattle.std.specs.Prelude.{◌==◌, if◌then◌else◌, slice_index, slice_set}
 use Rattle.std.proofs.lemmas.Bool.{cases_eq, cases_lt}
 use Rattle.std.proofs.lemmas.List.{get_or-drop, get_or-replicate, get_or-set_other, get_or-set_same, get_or-take, get_or_past, length-drop, length-replicate, length-set, length-take-le}
-use Rattle.lxr_image.specs.declared.heights.TheConstants.{GROUP}
-use Rattle.lxr_image.specs.Heights.{AreHighest}
+use Rattle.std.proofs.lemmas.List.Folds.{sum_by-replicate}
+use Rattle.std.proofs.lemmas.List.Sums.{get_or-le-sum_by, sum_by-set}
+use Rattle.lxr_image.specs.declared.heights.TheConstants.{FULL, GROUP}
+use Rattle.lxr_image.specs.Heights.{AreHighest, full_among}
 
 -- all have the same
 pub all_same : (n m h : ℕ) → n ≤ 64 * m → ((g : ℕ) → g < m → 64 * g < n) → AreHighest (replicate n h) (replicate m h)
@@ -90,3 +92,23 @@ of_whole xs g end within few most i below is =
     let rest = length-drop (64 * g) xs in
     let many = length-take-le (end - 64 * g) (drop (64 * g) xs) (omega (arith, rest)) in
     (64 * g + i, omega (arith, many, rest), omega (arith, many), sym (get_or-take (end - 64 * g) (drop (64 * g) xs) i 0 (omega (arith, many)) ∙ get_or-drop (64 * g) xs i 0) ∙ is)
+
+-- ---- how many blocks are full
+
+abbrev pub one_if_full : ℕ → ℕ
+one_if_full height = if height == FULL then 1 else 0
+
+pub full_of_same : (n height : ℕ) → full_among (replicate n height) ≡ n * one_if_full height
+full_of_same n height = sum_by-replicate one_if_full n height
+
+-- one that was full was counted
+pub full_before : (heights : List ℕ) (block full one : ℕ) → block < length heights → full ≡ full_among heights → one ≡ one_if_full (slice_index heights block) → one ≤ full
+full_before heights block full one within counted is = let some = get_or-le-sum_by one_if_full heights block 0 within in omega (arith, counted, is, some)
+
+-- where a block's number changes, it is counted by its new one in the place of its old one
+pub full_after : (heights : List ℕ) (block height full one : ℕ) → block < length heights → full ≡ full_among heights → one ≡ one_if_full (slice_index heights block)
+    → full - one + one_if_full height ≡ full_among (slice_set heights block height)
+full_after heights block height full one within counted is =
+    let both = sum_by-set one_if_full heights block height 0 within in
+    let some = full_before heights block full one within counted is in
+    omega (arith, both, counted, is, some)

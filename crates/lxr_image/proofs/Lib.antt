@@ -12,5 +12,10 @@ pub mod ReadLemmas
 pub mod OpeningLemmas
 pub mod RegisterLemmas
 pub mod HeightsLemmas
+pub mod RunLemmas
+pub mod WrittenLemmas
+pub mod RunTableLemmas
 pub mod SettledLemmas
+pub mod PlaceLemmas
+pub mod FreesLemmas
 pub mod WriteLemmas

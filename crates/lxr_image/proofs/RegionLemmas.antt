@@ -1,6 +1,6 @@
 -- Words cut into regions: a word that is written is written in its own region, and every other region is as it was.
-use Rattle.std.proofs.Common.{◌≡◌, ℕ, zero, suc, ◌+◌, ◌*◌, ◌<◌, ◌≤◌, refl, sym, ap, ◌∙◌, arith, List, [], ◌∷◌, length, take, drop, length-drop}
-use Rattle.std.specs.Prelude.{slice_index, slice_index_or, slice_set, sum}
+use Rattle.std.proofs.Common.{◌≡◌, ℕ, zero, suc, ◌+◌, ◌-◌, ◌*◌, ◌<◌, ◌≤◌, refl, sym, ap, ◌∙◌, inl, inr, arith, List, [], ◌∷◌, length, take, drop, length-drop}
+use Rattle.std.specs.Prelude.{◌⊎◌, slice_index, slice_index_or, slice_set, sum}
 use Rattle.std.proofs.Math.Seq.{take-set-lt}
 use Rattle.std.proofs.lemmas.List.{take-set-le, drop-set-lt, drop-set-add, drop-drop, get_or-drop, get_or-set_same, get_or-take, length-take-le}
 use Rattle.std.proofs.lemmas.List.Sums.{sum_by-cons, sum_by_more_le}
@@ -91,8 +91,28 @@ region_word sizes ws n o h within =
 pub region_within : (sizes ws : List ℕ) (n o : ℕ) → n < length sizes → o < slice_index sizes n → sum sizes ≤ length ws → begin_of sizes n + o < length ws
 region_within sizes ws n o h within enough = let past = sum_by_more_le (λ x. x) sizes n 0 h in omega arith
 
+-- words in a row of a region are among the words
+pub region_room : (sizes ws : List ℕ) (n o : ℕ) → n < length sizes → o ≤ slice_index sizes n → sum sizes ≤ length ws → begin_of sizes n + o ≤ length ws
+region_room sizes ws n o h within enough = let past = sum_by_more_le (λ x. x) sizes n 0 h in omega arith
+
 pub region_word_written : (sizes ws : List ℕ) (n o v : ℕ) → n < length sizes → o < slice_index sizes n
     → slice_index_or (cut sizes (slice_set ws (begin_of sizes n + o) v)) n [] ≡ slice_set (slice_index_or (cut sizes ws) n []) o v
 region_word_written sizes ws n o v h within =
     let len = length-cut sizes ws in
     ap (λ x. slice_index_or x n []) (cut_written sizes ws n o v within) ∙ get_or-set_same (cut sizes ws) n (slice_set (slice_index_or (cut sizes ws) n []) o v) [] (omega arith)
+
+-- a region is as it was where a word outside it is written
+pub region_outside : (sizes ws : List ℕ) (n at v : ℕ) → n < length sizes → (at < begin_of sizes n) ⊎ (begin_of sizes n + slice_index sizes n ≤ at)
+    → slice_index_or (cut sizes (slice_set ws at v)) n [] ≡ slice_index_or (cut sizes ws) n []
+region_outside sizes ws n at v h outside =
+    let size : ℕ = slice_index sizes n in
+    let begin : ℕ = begin_of sizes n in
+    cut_at sizes (slice_set ws at v) n h
+    ∙ elim outside as (λ _. take size (drop begin (slice_set ws at v)) ≡ take size (drop begin ws)) [
+      | inl before ↦ ap (take size) (drop-set-lt begin ws at v before)
+      | inr past ↦
+          let place : at ≡ begin + (at - begin) = omega (arith, past) in
+          ap (λ k. take size (drop begin (slice_set ws k v))) place ∙ ap (take size) (drop-set-add begin ws (at - begin) v)
+          ∙ take-set-le size (drop begin ws) (at - begin) v (omega (arith, past))
+    ]
+    ∙ sym (cut_at sizes ws n h)

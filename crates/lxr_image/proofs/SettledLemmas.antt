@@ -1,6 +1,9 @@
 -- What is known of lines stays known through writes.
-use Rattle.std.proofs.Common.{◌≡◌, ◌≢◌, ℕ, ◌+◌, ◌-◌, ◌*◌, ◌/◌, ◌^◌, ◌<◌, ◌≤◌, refl, sym, ap, subst, ◌∙◌, inl, inr, arith, Bool, true, false, List, length, replicate}
-use Rattle.std.specs.Prelude.{◌↔◌, ◌⊎◌, IsBitSet, IsTrue, slice_index, slice_set}
+use Rattle.std.proofs.Common.{◌≡◌, ◌≢◌, ℕ, ◌+◌, ◌-◌, ◌*◌, ◌/◌, ◌^◌, ◌<◌, ◌≤◌, refl, sym, ap, subst, ◌∙◌, inl, inr, arith, Bool, true, false, List, [], length, replicate}
+use Rattle.std.specs.Prelude.{◌↔◌, ◌⊎◌, IsTrue, slice_index, slice_index_or, slice_set}
+use Rattle.std.specs.Int.{bit_at}
+use Rattle.std.specs.Vec.{with_item}
+use Rattle.std.proofs.lemmas.Bool.{eq-eqb, eqb-true}
 use Rattle.std.proofs.lemmas.Bool.Decides.{eqb_tells}
 use Rattle.std.proofs.lemmas.Nat.Bits.{bit_at_ones}
 use Rattle.std.proofs.lemmas.List.{get_or-replicate, get_or-set_other, get_or-set_same, length-replicate}
@@ -8,8 +11,10 @@ use Rattle.std.proofs.Math.ListN.{length-set}
 use Rattle.lxr_layout.specs.declared.TheConstants.{GRANULES_IN_BLOCK, GRANULES_IN_LINE, LINES_IN_BLOCK}
 use Rattle.lxr_image.specs.declared.settled.Settled.{Settled}
 use Rattle.lxr_image.specs.declared.settled.TheConstants.{NOTED}
-use Rattle.lxr_image.specs.Settled.{AgreeBut, AreAllNoted, AreCounted, AreCountedIn, AreClear, AreNoLonger, ChangesCount, Disturbs, HasLongest, HasNoLonger, IsFreeLine, IsLongest, IsMaskOfFree, IsOpenLine, IsSettled, IsStateOf, KeepsLines, Knows, KnowsBlock, NoneIsOut, SameLines, StandsByLines, line_of}
-use Rattle.lxr_tables.proofs.BitLemmas.{one_is_set}
+use Rattle.lxr_image.specs.Settled.{AgreeBut, AreCounted, AreCountedIn, AreClear, AreKept, AreNoLonger, AreRunsOfFree, ChangesCount, Disturbs, HasLongest, HasNoLonger, IsFreeByLines, IsFreeLine, IsLongest, IsMaskOfFree, IsOpenLine, IsSettled, IsStateOf, KeepsOpenLines, Knows, KnowsBlock, NoneIsOut, SameLines, StandsByLines, line_of}
+use Rattle.lxr_tables.proofs.BitLemmas.{one_is_set, set_is_one}
+use Rattle.lxr_image.specs.Runs.{bits_of, words_of_runs}
+use Rattle.lxr_image.proofs.RunLemmas.{words_alike}
 use Rattle.lxr_image.specs.Tables.{Tables}
 
 -- ---- lines
@@ -53,12 +58,13 @@ block_alike t u b mask longest same state k = record {
   lines = λ i h. ((λ set. (same i h).0 ((k.lines i h).0 set)), (λ is. (k.lines i h).1 ((same i h).1 is)));
   longest = longest_alike (λ i. IsOpenLine t (line_of b i)) (λ i. IsOpenLine u (line_of b i)) longest same k.longest;
   state = subst (IsStateOf (λ i. IsOpenLine u (line_of b i))) (sym state) (state_alike (λ i. IsOpenLine t (line_of b i)) (λ i. IsOpenLine u (line_of b i)) (t.states b) same k.state);
+  whole = λ all. state ∙ k.whole (λ i h. (same i h).1 (all i h));
 }
 
 open_to : (t u : Tables) (line : ℕ) → u.outs line ≡ t.outs line → ((k : ℕ) → k < GRANULES_IN_LINE → t.counts (GRANULES_IN_LINE * line + k) ≡ 0 → u.counts (GRANULES_IN_LINE * line + k) ≡ 0)
     → ((k : ℕ) → k < GRANULES_IN_LINE → u.starts (GRANULES_IN_LINE * line + k) ≡ t.starts (GRANULES_IN_LINE * line + k)) → IsOpenLine t line → IsOpenLine u line
 open_to t u line outs counts starts is = record {
-  free = record { kept = outs ∙ is.free.kept; uncounted = λ k h. counts k h (is.free.uncounted k h) };
+  free = record { in_hand = outs ∙ is.free.in_hand; uncounted = λ k h. counts k h (is.free.uncounted k h) };
   unbegun = λ k h. starts k h ∙ is.unbegun k h;
 }
 
@@ -75,11 +81,12 @@ open_as_free t b counted i h = ((λ is. is.free), free_is_open t b i h counted)
 free_as_open : (t : Tables) (b : ℕ) → AreCountedIn t b → (i : ℕ) → i < LINES_IN_BLOCK → IsFreeLine t (line_of b i) ↔ IsOpenLine t (line_of b i)
 free_as_open t b counted i h = (free_is_open t b i h counted, (λ is. is.free))
 
-pub block_of_free : (t : Tables) (b mask longest : ℕ) → AreCountedIn t b → IsMaskOfFree mask t b → HasLongest t b longest → StandsByLines t b → KnowsBlock t b mask longest
-block_of_free t b mask longest counted is runs state = record {
+pub block_of_free : (t : Tables) (b mask longest : ℕ) → AreCountedIn t b → IsMaskOfFree mask t b → HasLongest t b longest → StandsByLines t b → IsFreeByLines t b → KnowsBlock t b mask longest
+block_of_free t b mask longest counted is runs state whole = record {
   lines = λ i h. ((λ set. free_is_open t b i h counted ((is i h).0 set)), (λ open_line. (is i h).1 open_line.free));
   longest = longest_alike (λ i. IsFreeLine t (line_of b i)) (λ i. IsOpenLine t (line_of b i)) longest (free_as_open t b counted) runs;
   state = state_alike (λ i. IsFreeLine t (line_of b i)) (λ i. IsOpenLine t (line_of b i)) (t.states b) (free_as_open t b counted) state;
+  whole = λ all. whole (λ i h. (all i h).free);
 }
 
 -- ---- what changes elsewhere
@@ -91,6 +98,7 @@ stays_known s t u lines states outs counted k = record {
   longest_many = k.longest_many;
   handed_many = k.handed_many;
   lines_many = k.lines_many;
+  kept = k.kept;
   settled = λ b is. block_alike t u b (slice_index s.lines.items b) (slice_index s.longest b) (lines b is) (states b is) (k.settled b is);
   handed = λ line within out. elim (outs line within out) [ inl was ↦ k.handed line within was | inr is ↦ is ];
   counted = λ yes b is. counted yes b is (k.counted yes b is);
@@ -155,6 +163,7 @@ noted s block t within k =
       longest_many = length-set s.longest block NOTED ∙ k.longest_many;
       handed_many = k.handed_many;
       lines_many = k.lines_many;
+      kept = k.kept;
       settled = λ b is.
           let (other, same) = noted_apart s.longest block b in_list is.1 in
           subst (KnowsBlock t b (slice_index s.lines.items b)) (sym same) (k.settled b (is.0, subst (λ n. n < NOTED) same is.1));
@@ -188,6 +197,7 @@ handed_on s block t within k =
       longest_many = k.longest_many;
       handed_many = length-set s.handed block 1 ∙ k.handed_many;
       lines_many = k.lines_many;
+      kept = k.kept;
       settled = k.settled;
       handed = λ line small out. one_at s.handed block (line / LINES_IN_BLOCK) in_list (k.handed line small out);
       counted = k.counted;
@@ -246,6 +256,7 @@ forgotten_known s t u all_noted k =
       longest_many = k.longest_many;
       handed_many = k.handed_many;
       lines_many = k.lines_many;
+      kept = k.kept;
       settled = λ b is. absurd (none b is);
       handed = λ line within out. (k.forgotten all_noted (line / LINES_IN_BLOCK) within).1;
       counted = λ trusted b is. absurd (none b is);
@@ -264,6 +275,7 @@ forget_known s t u k =
       longest_many = length-replicate (length s.longest) NOTED ∙ k.longest_many;
       handed_many = length-replicate (length s.handed) 1 ∙ k.handed_many;
       lines_many = k.lines_many;
+      kept = k.kept;
       settled = λ b is. absurd (never b is);
       handed = λ line within out. handed (line / LINES_IN_BLOCK) within;
       counted = λ trusted b is. absurd (never b is);
@@ -279,8 +291,8 @@ settled_cases xs block v b within = elim (eqb_tells b block) [
 ]
 
 pub settle_known : (s v : Settled) (block mask longest : ℕ) (t : Tables) → block < s.blocks → v.blocks ≡ s.blocks → v.longest ≡ slice_set s.longest block longest → v.lines.items ≡ slice_set s.lines.items block mask
-    → v.handed ≡ s.handed → v.counted ≡ s.counted → v.forgotten ≡ false → Knows s t → KnowsBlock t block mask longest → AreCountedIn t block → Knows v t
-settle_known s v block mask longest t within blocks longest_is lines_is handed_is counted_is unforgotten k known all =
+    → (AreKept s.blocks s.lines.items s.runs → AreKept s.blocks v.lines.items v.runs) → v.handed ≡ s.handed → v.counted ≡ s.counted → v.forgotten ≡ false → Knows s t → KnowsBlock t block mask longest → AreCountedIn t block → Knows v t
+settle_known s v block mask longest t within blocks longest_is lines_is kept handed_is counted_is unforgotten k known all =
     let many = k.longest_many in
     let lines_many = k.lines_many in
     let long : (b : ℕ) → slice_index v.longest b ≡ slice_index (slice_set s.longest block longest) b = λ b. ap (λ xs. slice_index xs b) longest_is in
@@ -290,6 +302,7 @@ settle_known s v block mask longest t within blocks longest_is lines_is handed_i
       longest_many = ap length longest_is ∙ length-set s.longest block longest ∙ k.longest_many ∙ sym blocks;
       handed_many = ap length handed_is ∙ k.handed_many ∙ sym blocks;
       lines_many = ap length lines_is ∙ length-set s.lines.items block mask ∙ k.lines_many ∙ sym blocks;
+      kept = subst (λ n. AreKept n v.lines.items v.runs) (sym blocks) (kept k.kept);
       settled = λ b is. elim (eqb_tells b block) as (λ _. KnowsBlock t b (slice_index v.lines.items b) (slice_index v.longest b)) [
         | inl same ↦
             let m : slice_index v.lines.items b ≡ mask = mask_of b ∙ ap (slice_index (slice_set s.lines.items block mask)) same.1 ∙ get_or-set_same s.lines.items block mask 0 (omega arith) in
@@ -315,6 +328,7 @@ none_out_known s block t within k none = record {
   longest_many = k.longest_many;
   handed_many = length-set s.handed block 0 ∙ k.handed_many;
   lines_many = k.lines_many;
+  kept = k.kept;
   settled = k.settled;
   handed = λ line small out. elim (eqb_tells (line / LINES_IN_BLOCK) block) as (λ _. slice_index (slice_set s.handed block 0) (line / LINES_IN_BLOCK) ≢ 0) [
     | inl same ↦ let clash : true ≡ false = sym out ∙ none line same.1 in absurd (cc)
@@ -331,6 +345,7 @@ trust_known s t k counted = record {
   longest_many = k.longest_many;
   handed_many = k.handed_many;
   lines_many = k.lines_many;
+  kept = k.kept;
   settled = k.settled;
   handed = k.handed;
   counted = λ yes b is g in_b begins. counted g begins;
@@ -342,28 +357,29 @@ distrust_known s t k = record {
   longest_many = k.longest_many;
   handed_many = k.handed_many;
   lines_many = k.lines_many;
+  kept = k.kept;
   settled = k.settled;
   handed = k.handed;
   counted = λ yes. let clash : false ≡ true = yes in absurd (cc);
   forgotten = k.forgotten;
 }
 
-open_keeps : (t u : Tables) (line : ℕ) → KeepsLines t u → IsOpenLine t line ↔ IsOpenLine u line
+open_keeps : (t u : Tables) (line : ℕ) → KeepsOpenLines t u → IsOpenLine t line ↔ IsOpenLine u line
 open_keeps t u line keeps = (
   (λ is. record {
-    free = record { kept = keeps.outs line ∙ is.free.kept; uncounted = λ k h. keeps.counts (GRANULES_IN_LINE * line + k) (is.unbegun k h) ∙ is.free.uncounted k h };
+    free = record { in_hand = keeps.outs line ∙ is.free.in_hand; uncounted = λ k h. keeps.counts (GRANULES_IN_LINE * line + k) (is.unbegun k h) ∙ is.free.uncounted k h };
     unbegun = λ k h. keeps.starts (GRANULES_IN_LINE * line + k) ∙ is.unbegun k h;
   }),
   (λ is.
       let unbegun : (k : ℕ) → k < GRANULES_IN_LINE → t.starts (GRANULES_IN_LINE * line + k) ≡ false = λ k h. sym (keeps.starts (GRANULES_IN_LINE * line + k)) ∙ is.unbegun k h in
       record {
-        free = record { kept = sym (keeps.outs line) ∙ is.free.kept; uncounted = λ k h. sym (keeps.counts (GRANULES_IN_LINE * line + k) (unbegun k h)) ∙ is.free.uncounted k h };
+        free = record { in_hand = sym (keeps.outs line) ∙ is.free.in_hand; uncounted = λ k h. sym (keeps.counts (GRANULES_IN_LINE * line + k) (unbegun k h)) ∙ is.free.uncounted k h };
         unbegun = unbegun;
       }),
 )
 
 -- an epoch has passed
-pub keeps_known : (s : Settled) (t u : Tables) → Knows s t → KeepsLines t u → Knows (record s { counted = false }) u
+pub keeps_known : (s : Settled) (t u : Tables) → Knows s t → KeepsOpenLines t u → Knows (record s { counted = false }) u
 keeps_known s t u k keeps =
     stays_known (record s { counted = false }) t u (λ b is i h. open_keeps t u (line_of b i) keeps) (λ b is. keeps.states b) (λ line within out. inl (subst IsTrue (keeps.outs line) out))
     (λ yes. let clash : false ≡ true = yes in absurd (cc)) (distrust_known s t k)
@@ -374,6 +390,53 @@ pub free_known : (s : Settled) (t : Tables) (b : ℕ) → IsSettled s b → s.co
 free_known s t b is trusted k i h =
     let told = (k.settled b is).lines i h in
     ((λ set. (told.0 set).free), (λ free. told.1 (free_is_open t b i h (k.counted trusted b is) free)))
+
+-- the lines of a mask of free lines are the free ones
+free_lines : (mask : ℕ) (t : Tables) (b : ℕ) → IsMaskOfFree mask t b → (i : ℕ) → i < LINES_IN_BLOCK → IsTrue (bits_of mask i) ↔ IsFreeLine t (line_of b i)
+free_lines mask t b is i h = (
+  (λ yes. (is i h).0 (one_is_set mask i (eqb-true (bit_at mask i) 1 yes))),
+  (λ free. eq-eqb (bit_at mask i) 1 (set_is_one mask i ((is i h).1 free))),
+)
+
+pub runs_known : (s : Settled) (t : Tables) (b : ℕ) → IsSettled s b → s.counted ≡ true → (slice_index_or s.runs b [] ≡ [] → ⊥) → Knows s t → AreRunsOfFree (slice_index_or s.runs b []) t b
+runs_known s t b is trusted some k = (
+  bits_of (slice_index s.lines.items b),
+  free_lines (slice_index s.lines.items b) t b (free_known s t b is trusted k),
+  elim (k.kept.words b is.0) [ inl none ↦ absurd (some none) | inr words ↦ words ],
+)
+
+-- lines of which the free ones are told have the runs of the mask of the free ones
+told_runs : (words : List ℕ) (mask : ℕ) (t : Tables) (b : ℕ) → IsMaskOfFree mask t b → AreRunsOfFree words t b → words ≡ words_of_runs (bits_of mask) b
+told_runs words mask t b is (free, same, told) =
+    told ∙ words_alike free (bits_of mask) b (λ i h. let own = free_lines mask t b is i h in let its = same i h in ((λ yes. own.1 (its.0 yes)), (λ yes. its.1 (own.0 yes))))
+
+pub kept_known : (s : Settled) (t : Tables) (block : ℕ) (words kept : List ℕ) → IsSettled s block → s.counted ≡ true → AreRunsOfFree words t block → (kept ≡ words) ⊎ (kept ≡ []) → Knows s t
+    → Knows (record s { runs = slice_set s.runs block kept }) t
+kept_known s t block words kept is trusted told held k =
+    let many = k.kept.many in let within = is.0 in
+    record {
+      longest_many = k.longest_many;
+      handed_many = k.handed_many;
+      lines_many = k.lines_many;
+      kept = record {
+        many = length-set s.runs block kept ∙ k.kept.many;
+        words = λ b h. elim (eqb_tells b block) as (λ _. (slice_index_or (slice_set s.runs block kept) b [] ≡ []) ⊎ (slice_index_or (slice_set s.runs block kept) b [] ≡ words_of_runs (bits_of (slice_index s.lines.items b)) b)) [
+          | inl same ↦
+              let here : slice_index_or (slice_set s.runs block kept) b [] ≡ kept = ap (λ n. slice_index_or (slice_set s.runs block kept) n []) same.1 ∙ get_or-set_same s.runs block kept [] (omega arith) in
+              elim held [
+                | inl all ↦ inr (here ∙ all ∙ told_runs words (slice_index s.lines.items block) t block (free_known s t block is trusted k) told ∙ ap (λ n. words_of_runs (bits_of (slice_index s.lines.items n)) n) (sym same.1))
+                | inr none ↦ inl (here ∙ none)
+              ]
+          | inr other ↦
+              let there : slice_index_or (slice_set s.runs block kept) b [] ≡ slice_index_or s.runs b [] = get_or-set_other s.runs block b kept [] other.1 in
+              elim (k.kept.words b h) [ inl none ↦ inl (there ∙ none) | inr all ↦ inr (there ∙ all) ]
+        ];
+      };
+      settled = k.settled;
+      handed = k.handed;
+      counted = k.counted;
+      forgotten = k.forgotten;
+    }
 
 pub stands_known : (s : Settled) (t : Tables) (b : ℕ) → IsSettled s b → s.counted ≡ true → Knows s t → StandsByLines t b
 stands_known s t b is trusted k = state_alike (λ i. IsOpenLine t (line_of b i)) (λ i. IsFreeLine t (line_of b i)) (t.states b) (open_as_free t b (k.counted trusted b is)) (k.settled b is).state
@@ -388,20 +451,22 @@ none_known s t b within zero k line in_b = no_bit (t.outs line) (λ out. k.hande
 -- ---- words that are all 0
 
 clear_line : (t : Tables) (line : ℕ) → AreClear t → IsOpenLine t line
-clear_line t line clear = record { free = record { kept = clear.outs line; uncounted = λ k h. clear.counts (GRANULES_IN_LINE * line + k) }; unbegun = λ k h. clear.starts (GRANULES_IN_LINE * line + k) }
+clear_line t line clear = record { free = record { in_hand = clear.outs line; uncounted = λ k h. clear.counts (GRANULES_IN_LINE * line + k) }; unbegun = λ k h. clear.starts (GRANULES_IN_LINE * line + k) }
 
 clear_block : (t : Tables) (b : ℕ) → AreClear t → KnowsBlock t b (2 ^ 128 - 1) 128
 clear_block t b clear = record {
   lines = λ i h. ((λ set. clear_line t (line_of b i) clear), (λ is. one_is_set (2 ^ 128 - 1) i (bit_at_ones 128 i h)));
   longest = ((λ first many within each. omega (arith, within)), inr (0, omega arith, λ i h. clear_line t (line_of b (0 + i)) clear));
   state = inr (inl (clear.states b, λ i h. clear_line t (line_of b i) clear));
+  whole = λ all. clear.states b;
 }
 
-pub clear_known : (s : Settled) (t : Tables) → s.longest ≡ replicate s.blocks 128 → s.handed ≡ replicate s.blocks 0 → s.lines.items ≡ replicate s.blocks (2 ^ 128 - 1) → s.forgotten ≡ false → AreClear t → Knows s t
-clear_known s t longest handed lines unforgotten clear = record {
+pub clear_known : (s : Settled) (t : Tables) → s.longest ≡ replicate s.blocks 128 → s.handed ≡ replicate s.blocks 0 → s.lines.items ≡ replicate s.blocks (2 ^ 128 - 1) → s.runs ≡ replicate s.blocks [] → s.forgotten ≡ false → AreClear t → Knows s t
+clear_known s t longest handed lines runs unforgotten clear = record {
   longest_many = ap length longest ∙ length-replicate s.blocks 128;
   handed_many = ap length handed ∙ length-replicate s.blocks 0;
   lines_many = ap length lines ∙ length-replicate s.blocks (2 ^ 128 - 1);
+  kept = record { many = ap length runs ∙ length-replicate s.blocks []; words = λ b h. inl (ap (λ xs. slice_index_or xs b []) runs ∙ get_or-replicate s.blocks b [] [] h) };
   settled = λ b is.
       let mask : slice_index s.lines.items b ≡ 2 ^ 128 - 1 = ap (λ xs. slice_index xs b) lines ∙ get_or-replicate s.blocks b (2 ^ 128 - 1) 0 is.0 in
       let most : slice_index s.longest b ≡ 128 = ap (λ xs. slice_index xs b) longest ∙ get_or-replicate s.blocks b 128 0 is.0 in

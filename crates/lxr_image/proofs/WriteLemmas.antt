@@ -1,10 +1,10 @@
 -- What writes to words change of lines, and that what is known of them stays so.
-use Rattle.std.proofs.Common.{◌≡◌, ◌≢◌, ℕ, ◌+◌, ◌*◌, ◌/◌, ◌%◌, ◌<◌, ◌≤◌, refl, sym, ap, subst, ◌∙◌, inl, inr, arith, Bool, cond, lit<, List, [], length}
-use Rattle.std.specs.Prelude.{◌==◌, ◌↔◌, IfSome, IsTrue, None, Option, Some, slice_index, slice_set}
+use Rattle.std.proofs.Common.{◌≡◌, ◌≢◌, ℕ, ◌+◌, ◌*◌, ◌/◌, ◌%◌, ◌<◌, ◌≤◌, refl, sym, ap, subst, ◌∙◌, inl, inr, arith, Bool, cond, lit<, List, drop, length}
+use Rattle.std.specs.Prelude.{◌==◌, IfSome, IsTrue, None, Option, Some, slice_index, slice_set}
 use Rattle.std.specs.Int.{bit_at}
 use Rattle.std.proofs.lemmas.Bool.Decides.{eqb_tells}
 use Rattle.lxr_tables.specs.declared.counts.TheConstants.{COUNTS_IN_WORD}
-use Rattle.lxr_tables.specs.Entries.{OthersStay, counts_from}
+use Rattle.lxr_tables.specs.Entries.{OthersStay, counts_from, table}
 use Rattle.lxr_layout.specs.declared.TheConstants.{GRANULES_IN_BLOCK, GRANULES_IN_LINE, LINES_IN_BLOCK}
 use Rattle.lxr_layout.specs.declared.limits.Limits.{Limits}
 use Rattle.lxr_layout.specs.Spaces.{all_regions, counts_region, region_sizes, region_begin, reuse_region}
@@ -13,13 +13,14 @@ use Rattle.lxr_image.specs.declared.tables.BitTable.{BitTable}
 use Rattle.lxr_image.specs.declared.tables.BitTable.TheVariants.{Starts, Marks, Grays, Dones, Unlogged, Outs}
 use Rattle.lxr_image.specs.declared.tables.WordTable.{WordTable}
 use Rattle.lxr_image.specs.declared.tables.WordTable.TheVariants.{Heap, States, Runs, Frees, Decrements, Remembered, Cursors}
-use Rattle.lxr_image.specs.Settled.{AgreeBut, AreClear, AreCounted, AreCountedIn, BitTouches, ChangesCount, Disturbs, HasLongest, HasNoLonger, IsFreeLine, IsMaskOfFree, IsStateOf, KeepsLines, Knows, KnowsBlock, KnowsWords, NoneIsOut, SameLines, StandsByLines, WordTouches, block_of_bit, line_of, of_blocks}
-use Rattle.lxr_image.specs.Spaces.{replaced_bits, with_bit, with_bit_word, with_word}
+use Rattle.lxr_image.specs.Settled.{AgreeBut, AreClear, AreCounted, AreCountedIn, AreRunsOfFree, BitTouches, ChangesCount, Disturbs, HasLongest, HasNoLonger, IsFreeByLines, IsFreeLine, IsMaskOfFree, IsStateOf, KeepsOpenLines, Knows, KnowsBlock, KnowsWords, NoneIsOut, SameLines, StandsByLines, WordTouches, block_of_bit, line_of, of_blocks}
+use Rattle.lxr_image.specs.Runs.{with_runs}
+use Rattle.lxr_image.specs.Spaces.{bit_region, replaced_bits, with_bit, with_bit_word, with_word}
 use Rattle.lxr_image.specs.Tables.{Tables, changed, tables_in}
 use Rattle.lxr_image.specs.Opened.{cleared_tables}
-use Rattle.lxr_image.proofs.OpenLemmas.{tables_cleared}
 use Rattle.lxr_image.proofs.RegionLemmas.{region_within}
-use Rattle.lxr_image.proofs.TableLaws.{count_read, count_within, count_written, rebuilt}
+use Rattle.lxr_image.proofs.TableLaws.{bit_within, bit_written, count_read, count_within, count_written, rebuilt}
+use Rattle.lxr_image.proofs.RunLemmas.{few_words}
 use Rattle.lxr_image.proofs.SettledLemmas.{block_of_free, count_disturbs, longest_alike, state_alike}
 
 pub size_is : (l : Limits) (ws : List ℕ) → (tables_in l ws).size ≡ length ws
@@ -39,6 +40,17 @@ pub count_put : (l : Limits) (ws vs : List ℕ) (g e base : ℕ) → base ≡ re
 count_put l ws vs g e base base_is size within put others =
     count_written l ws vs g e (size_is l ws ∙ size) within (subst (λ b. counts_from vs b ≡ slice_set (counts_from ws b) g e) base_is put) (subst (λ b. OthersStay ws vs (b + g / COUNTS_IN_WORD)) base_is others)
 
+-- a bit is written in the words after the first of its table
+pub bit_put : (l : Limits) (ws vs : List ℕ) (t : BitTable) (k e base : ℕ) → base ≡ region_begin l (bit_region t) → length ws ≡ region_begin l all_regions → k < 64 * slice_index (region_sizes l) (bit_region t)
+    → table 1 64 (drop base vs) ≡ slice_set (table 1 64 (drop base ws)) k e → OthersStay ws vs (base + k / 64) → tables_in l vs ≡ with_bit (tables_in l ws) t k (e == 1)
+bit_put l ws vs t k e base base_is size within put others =
+    bit_written l ws vs t k e (size_is l ws ∙ size) within (subst (λ b. table 1 64 (drop b vs) ≡ slice_set (table 1 64 (drop b ws)) k e) base_is put)
+    (subst (λ b. OthersStay ws vs (b + k / 64)) base_is others)
+
+pub bit_place : (l : Limits) (ws : List ℕ) (t : BitTable) (k base : ℕ) → base ≡ region_begin l (bit_region t) → length ws ≡ region_begin l all_regions → k < 64 * slice_index (region_sizes l) (bit_region t)
+    → base + k / 64 < length ws
+bit_place l ws t k base base_is size within = subst (λ b. b + k / 64 < length ws) (sym base_is) (bit_within l ws t k (size_is l ws ∙ size) within)
+
 pub count_place : (l : Limits) (ws : List ℕ) (g base : ℕ) → base ≡ region_begin l counts_region → length ws ≡ region_begin l all_regions → g < GRANULES_IN_BLOCK * l.blocks → base + g / COUNTS_IN_WORD < length ws
 count_place l ws g base base_is size within = subst (λ b. b + g / COUNTS_IN_WORD < length ws) (sym base_is) (count_within l ws g (size_is l ws ∙ size) within)
 
@@ -48,7 +60,7 @@ same_lines : (l : Limits) (ws : List ℕ) → SameLines (tables_in l ws) (tables
 unfolding tables_in
 same_lines l ws = record { counts = λ g. refl; starts = λ g. refl; outs = λ line. refl; states = λ b. refl }
 
-lines_at : (l : Limits) (ws : List ℕ) (n : ℕ) → l.blocks ≡ n → SameLines (tables_in l ws) (tables_in (of_blocks n) ws)
+pub lines_at : (l : Limits) (ws : List ℕ) (n : ℕ) → l.blocks ≡ n → SameLines (tables_in l ws) (tables_in (of_blocks n) ws)
 lines_at l ws n blocks = subst (λ m. SameLines (tables_in l ws) (tables_in (of_blocks m) ws)) blocks (same_lines l ws)
 
 same_back : (t u : Tables) → SameLines t u → SameLines u t
@@ -86,7 +98,7 @@ count_moved t w t' u' granule old new a b c = record {
   states = λ n. b.states n ∙ c.states n ∙ sym (a.states n);
 }
 
-keeps_moved : (t w t' u' : Tables) → SameLines t t' → SameLines w u' → KeepsLines t w → KeepsLines t' u'
+keeps_moved : (t w t' u' : Tables) → SameLines t t' → SameLines w u' → KeepsOpenLines t w → KeepsOpenLines t' u'
 keeps_moved t w t' u' a b c = record {
   starts = λ g. b.starts g ∙ c.starts g ∙ sym (a.starts g);
   outs = λ line. b.outs line ∙ c.outs line ∙ sym (a.outs line);
@@ -212,6 +224,12 @@ module _ (s v : Settled) (l : Limits) (ws vs : List ℕ) (same : v.blocks ≡ s.
       knows_after SameLines s v l.blocks ws vs same note
       (same_moved (tables_in l ws) (tables_in l vs) (tables_in (of_blocks l.blocks) ws) (tables_in (of_blocks l.blocks) vs) (same_lines l ws) (same_lines l vs) (reuse_keeps l ws vs at within others)) known
 
+  pub run_words_known : (at : ℕ) (words : List ℕ) → ((t u : Tables) → Knows s t → (l.blocks ≡ s.blocks → SameLines t u) → Knows v u) → tables_in l vs ≡ with_runs (tables_in l ws) at words → KnowsWords s ws → KnowsWords v vs
+  run_words_known at words note is known =
+      knows_after SameLines s v l.blocks ws vs same note
+      (same_moved (tables_in l ws) (with_runs (tables_in l ws) at words) (tables_in (of_blocks l.blocks) ws) (tables_in (of_blocks l.blocks) vs) (same_lines l ws) (after_write l vs (with_runs (tables_in l ws) at words) is)
+      (record { counts = λ g. refl; starts = λ g. refl; outs = λ line. refl; states = λ b. refl })) known
+
   changed_count : (granule old new : ℕ) → (tables_in l ws).counts granule ≡ old → tables_in l vs ≡ record (tables_in l ws) { counts = changed (tables_in l ws).counts granule new }
       → ChangesCount granule old new (tables_in (of_blocks l.blocks) ws) (tables_in (of_blocks l.blocks) vs)
   changed_count granule old new was is =
@@ -230,9 +248,9 @@ module _ (s v : Settled) (l : Limits) (ws vs : List ℕ) (same : v.blocks ≡ s.
       (count_disturbs granule ((tables_in l ws).counts granule) new (tables_in (of_blocks l.blocks) ws) (tables_in (of_blocks l.blocks) vs) (changed_count granule ((tables_in l ws).counts granule) new refl is))) known
 
   -- an epoch has passed
-  pub keeps_words : ((t u : Tables) → Knows s t → (l.blocks ≡ s.blocks → KeepsLines t u) → Knows v u) → KeepsLines (tables_in l ws) (tables_in l vs) → KnowsWords s ws → KnowsWords v vs
+  pub keeps_words : ((t u : Tables) → Knows s t → (l.blocks ≡ s.blocks → KeepsOpenLines t u) → Knows v u) → KeepsOpenLines (tables_in l ws) (tables_in l vs) → KnowsWords s ws → KnowsWords v vs
   keeps_words note keeps known =
-      knows_after KeepsLines s v l.blocks ws vs same note
+      knows_after KeepsOpenLines s v l.blocks ws vs same note
       (keeps_moved (tables_in l ws) (tables_in l vs) (tables_in (of_blocks l.blocks) ws) (tables_in (of_blocks l.blocks) vs) (same_lines l ws) (same_lines l vs) keeps) known
 
 -- ---- words that are all 0
@@ -243,10 +261,21 @@ zeros_are_clear l size ws is = subst AreClear (sym is) (record { counts = λ g. 
 -- ---- what is told of lines, in the tables of a space's own limits
 
 free_moved : (t u : Tables) → SameLines t u → (line : ℕ) → IsFreeLine t line → IsFreeLine u line
-free_moved t u same line is = record { kept = same.outs line ∙ is.kept; uncounted = λ k h. same.counts (GRANULES_IN_LINE * line + k) ∙ is.uncounted k h }
+free_moved t u same line is = record { in_hand = same.outs line ∙ is.in_hand; uncounted = λ k h. same.counts (GRANULES_IN_LINE * line + k) ∙ is.uncounted k h }
 
 pub mask_moved : (t u : Tables) (b mask : ℕ) → SameLines t u → IsMaskOfFree mask t b → IsMaskOfFree mask u b
 mask_moved t u b mask same is i h = ((λ set. free_moved t u same (line_of b i) ((is i h).0 set)), (λ free. (is i h).1 (free_moved u t (same_back t u same) (line_of b i) free)))
+
+pub runs_moved : (t u : Tables) (b : ℕ) (words : List ℕ) → SameLines t u → AreRunsOfFree words t b → AreRunsOfFree words u b
+runs_moved t u b words same (free, is, told) = (
+  free,
+  (λ i h. ((λ yes. free_moved t u same (line_of b i) ((is i h).0 yes)), (λ line. (is i h).1 (free_moved u t (same_back t u same) (line_of b i) line)))),
+  told,
+)
+
+-- there are few of them
+pub runs_few : (words : List ℕ) (t : Tables) (b : ℕ) → AreRunsOfFree words t b → length words ≤ 64
+runs_few words t b (free, is, told) = let same = ap length told in let few = few_words free b in omega arith
 
 pub longer_moved : (t u : Tables) (b longest : ℕ) → SameLines t u → HasNoLonger t b longest → HasNoLonger u b longest
 longer_moved t u b longest same are first many within each = are first many within (λ i h. free_moved u t (same_back t u same) (line_of b (first + i)) (each i h))
@@ -258,6 +287,9 @@ longest_moved t u b longest same is =
 pub stands_moved : (t u : Tables) (b : ℕ) → SameLines t u → StandsByLines t b → StandsByLines u b
 stands_moved t u b same is = subst (λ n. IsStateOf (λ i. IsFreeLine u (line_of b i)) n) (sym (same.states b))
     (state_alike (λ i. IsFreeLine t (line_of b i)) (λ i. IsFreeLine u (line_of b i)) (t.states b) (λ i h. (free_moved t u same (line_of b i), free_moved u t (same_back t u same) (line_of b i))) is)
+
+pub whole_moved : (t u : Tables) (b : ℕ) → SameLines t u → IsFreeByLines t b → IsFreeByLines u b
+whole_moved t u b same whole all = same.states b ∙ whole (λ i h. free_moved u t (same_back t u same) (line_of b i) (all i h))
 
 pub counted_moved : (t u : Tables) (b : ℕ) → SameLines t u → AreCountedIn t b → AreCountedIn u b
 counted_moved t u b same counted g in_b begins none = counted g in_b (subst IsTrue (same.starts g) begins) (sym (same.counts g) ∙ none)
@@ -279,14 +311,15 @@ module _ (P : Tables → Type 0) (moved : (t u : Tables) → SameLines t u → P
 -- a block is settled
 pub settled_words : (s v : Settled) (l : Limits) (ws : List ℕ) (block mask longest : ℕ) → l.blocks ≡ s.blocks → v.blocks ≡ s.blocks
     → ((t : Tables) → Knows s t → KnowsBlock t block mask longest → AreCountedIn t block → Knows v t)
-    → IsMaskOfFree mask (tables_in l ws) block → HasLongest (tables_in l ws) block longest → StandsByLines (tables_in l ws) block → AreCountedIn (tables_in l ws) block → KnowsWords s ws → KnowsWords v ws
-settled_words s v l ws block mask longest here same settle is runs state counted known =
+    → IsMaskOfFree mask (tables_in l ws) block → HasLongest (tables_in l ws) block longest → StandsByLines (tables_in l ws) block → IsFreeByLines (tables_in l ws) block → AreCountedIn (tables_in l ws) block
+    → KnowsWords s ws → KnowsWords v ws
+settled_words s v l ws block mask longest here same settle is runs state whole counted known =
     let t : Tables = tables_in (of_blocks s.blocks) ws in
     let all : AreCountedIn t block = told_to (λ x. AreCountedIn x block) (λ a b. counted_moved a b block) l ws s.blocks here counted in
     subst (λ n. Knows v (tables_in (of_blocks n) ws)) (sym same)
     (settle t known
     (block_of_free t block mask longest all (told_to (λ x. IsMaskOfFree mask x block) (λ a b. mask_moved a b block mask) l ws s.blocks here is) (told_to (λ x. HasLongest x block longest) (λ a b. longest_moved a b block longest) l ws s.blocks here runs)
-    (told_to (λ x. StandsByLines x block) (λ a b. stands_moved a b block) l ws s.blocks here state)) all)
+    (told_to (λ x. StandsByLines x block) (λ a b. stands_moved a b block) l ws s.blocks here state) (told_to (λ x. IsFreeByLines x block) (λ a b. whole_moved a b block) l ws s.blocks here whole)) all)
 
 -- no line of a block is out
 pub none_out_words : (s v : Settled) (l : Limits) (ws : List ℕ) (block : ℕ) → l.blocks ≡ s.blocks → v.blocks ≡ s.blocks → ((t : Tables) → Knows s t → NoneIsOut t block → Knows v t) → NoneIsOut (tables_in l ws) block
@@ -304,3 +337,15 @@ pub free_words : (s : Settled) (l : Limits) (ws : List ℕ) (block : ℕ) (resul
     → IfSome result (λ mask. IsMaskOfFree mask (tables_in l ws) block)
 free_words s l ws block None here told known = here
 free_words s l ws block (Some mask) here told known = told_by (λ x. IsMaskOfFree mask x block) (λ a b. mask_moved a b block mask) l ws s.blocks (sym here) (told (tables_in (of_blocks s.blocks) ws) known)
+
+-- the runs of a block are kept
+pub keep_words : (s v : Settled) (l : Limits) (ws words : List ℕ) (block : ℕ) → v.blocks ≡ s.blocks → ((t : Tables) → Knows s t → (l.blocks ≡ s.blocks → AreRunsOfFree words t block) → Knows v t)
+    → AreRunsOfFree words (tables_in l ws) block → KnowsWords s ws → KnowsWords v ws
+keep_words s v l ws words block same keep told known =
+    subst (λ n. Knows v (tables_in (of_blocks n) ws)) (sym same)
+    (keep (tables_in (of_blocks s.blocks) ws) known (λ here. told_to (λ x. AreRunsOfFree words x block) (λ a b. runs_moved a b block words) l ws s.blocks here told))
+
+-- and are told where they are kept
+pub kept_words : (s : Settled) (l : Limits) (ws words : List ℕ) (block : ℕ) → s.blocks ≡ l.blocks → ((t : Tables) → Knows s t → AreRunsOfFree words t block) → KnowsWords s ws → AreRunsOfFree words (tables_in l ws) block
+kept_words s l ws words block here told known =
+    told_by (λ x. AreRunsOfFree words x block) (λ a b. runs_moved a b block words) l ws s.blocks (sym here) (told (tables_in (of_blocks s.blocks) ws) known)

@@ -1,5 +1,6 @@
 pub mod Tables
 pub mod Spaces
+pub mod Runs
 pub mod Opened
 pub mod Reads
 pub mod Registers

@@ -1,18 +1,22 @@
 -- What is kept beside the words of the lines of blocks: answers that a pause would else look up again at each block.
-use Rattle.std.specs.Prelude.{◌≡◌, ◌≢◌, ℕ, ◌+◌, ◌*◌, ◌/◌, ◌<◌, ◌≤◌, ◌↔◌, ◌⊎◌, true, false, List, IsBitSet, IsTrue, length, slice_index}
+use Rattle.std.specs.Prelude.{◌≡◌, ◌≢◌, ℕ, zero, suc, ◌+◌, ◌*◌, ◌/◌, ◌<◌, ◌≤◌, ◌==◌, ◌&&◌, ◌↔◌, ◌⊎◌, ⊤, Bool, true, false, List, [], IsBitSet, IsTrue, if◌then◌else◌, length, slice_index, slice_index_or}
 use Rattle.lxr_layout.specs.declared.TheConstants.{GRANULES_IN_BLOCK, GRANULES_IN_LINE, LINES_IN_BLOCK}
 use Rattle.lxr_layout.specs.declared.limits.Limits.{Limits}
+use Rattle.lxr_image.specs.declared.heights.TheConstants.{FULL}
+use Rattle.lxr_image.specs.declared.places.Told.{Told}
+use Rattle.lxr_image.specs.declared.places.Told.TheVariants as told
 use Rattle.lxr_image.specs.declared.settled.Settled.{Settled}
 use Rattle.lxr_image.specs.declared.settled.TheConstants.{NOTED}
 use Rattle.lxr_image.specs.declared.tables.BitTable.{BitTable}
 use Rattle.lxr_image.specs.declared.tables.BitTable.TheVariants as bit
 use Rattle.lxr_image.specs.declared.tables.WordTable.{WordTable}
 use Rattle.lxr_image.specs.declared.tables.WordTable.TheVariants as word
+use Rattle.lxr_image.specs.Runs.{bits_of, words_of_runs}
 use Rattle.lxr_image.specs.Tables.{Tables, tables_in}
 
 -- a line, counted over the whole heap, is free: it wasn't handed out since the last promotion, and each count on it is 0
 pub record IsFreeLine (t : Tables) (line : ℕ) : Type 0 where
-  pub kept : t.outs line ≡ false
+  pub in_hand : t.outs line ≡ false
   pub uncounted : (k : ℕ) → k < GRANULES_IN_LINE → t.counts (GRANULES_IN_LINE * line + k) ≡ 0
 
 -- It is open: it is free, and no object begins on it. While helpers lower counts a line may become free where an object still begins; an open line
@@ -46,6 +50,10 @@ IsLongest is longest = AreNoLonger is longest × ((longest ≡ 0) ⊎ ((first : 
 abbrev pub StandsByLines : Tables → ℕ → Type 0
 StandsByLines t b = IsStateOf (λ i. IsFreeLine t (line_of b i)) (t.states b)
 
+-- where all lines of a block are free, it is Free
+abbrev pub IsFreeByLines : Tables → ℕ → Type 0
+IsFreeByLines t b = ((i : ℕ) → i < LINES_IN_BLOCK → IsFreeLine t (line_of b i)) → t.states b ≡ 0
+
 -- no run of free lines of a block is longer
 abbrev pub HasNoLonger : Tables → ℕ → ℕ → Type 0
 HasNoLonger t b longest = AreNoLonger (λ i. IsFreeLine t (line_of b i)) longest
@@ -66,6 +74,10 @@ AreCounted t = (g : ℕ) → IsTrue (t.starts g) → t.counts g ≢ 0
 abbrev pub IsMaskOfFree : ℕ → Tables → ℕ → Type 0
 IsMaskOfFree mask t b = (i : ℕ) → i < LINES_IN_BLOCK → IsBitSet mask i ↔ IsFreeLine t (line_of b i)
 
+-- these are the words of the runs of a block's free lines, in order
+abbrev pub AreRunsOfFree : List ℕ → Tables → ℕ → Type 0
+AreRunsOfFree words t b = (free : ℕ → Bool) × ((i : ℕ) → i < LINES_IN_BLOCK → IsTrue (free i) ↔ IsFreeLine t (line_of b i)) × (words ≡ words_of_runs free b)
+
 -- no line of a block is out
 abbrev pub NoneIsOut : Tables → ℕ → Type 0
 NoneIsOut t b = (line : ℕ) → line / LINES_IN_BLOCK ≡ b → t.outs line ≡ false
@@ -79,11 +91,17 @@ pub record AreClear (t : Tables) : Type 0 where
 
 -- ---- what is known
 
--- a block's open lines are these, the longest run of them has so many, and its state is theirs
+-- a block's open lines are these, the longest run of them has so many, and its state is theirs; where all are open, it is Free
 pub record KnowsBlock (t : Tables) (b mask most : ℕ) : Type 0 where
   pub lines : (i : ℕ) → i < LINES_IN_BLOCK → IsBitSet mask i ↔ IsOpenLine t (line_of b i)
   pub longest : IsLongest (λ i. IsOpenLine t (line_of b i)) most
   pub state : IsStateOf (λ i. IsOpenLine t (line_of b i)) (t.states b)
+  pub whole : ((i : ℕ) → i < LINES_IN_BLOCK → IsOpenLine t (line_of b i)) → t.states b ≡ 0
+
+-- for each block with these open lines the words of their runs are kept, or none
+pub record AreKept (blocks : ℕ) (lines : List ℕ) (runs : List (List ℕ)) : Type 0 where
+  pub many : length runs ≡ blocks
+  pub words : (b : ℕ) → b < blocks → (slice_index_or runs b [] ≡ []) ⊎ (slice_index_or runs b [] ≡ words_of_runs (bits_of (slice_index lines b)) b)
 
 -- a block is settled: it isn't noted
 abbrev pub IsSettled : Settled → ℕ → Type 0
@@ -98,6 +116,7 @@ pub record Knows (s : Settled) (t : Tables) : Type 0 where
   pub longest_many : length s.longest ≡ s.blocks
   pub handed_many : length s.handed ≡ s.blocks
   pub lines_many : length s.lines.items ≡ s.blocks
+  pub kept : AreKept s.blocks s.lines.items s.runs
   -- of each settled block its open lines, and what follows from them
   pub settled : (b : ℕ) → IsSettled s b → KnowsBlock t b (slice_index s.lines.items b) (slice_index s.longest b)
   -- lines are out in no other blocks than these
@@ -113,6 +132,22 @@ of_blocks blocks = record { blocks = blocks; threads = 0; log = 0; remember = 0;
 -- it is so of words, for as many blocks as it says
 abbrev pub KnowsWords : Settled → List ℕ → Type 0
 KnowsWords s words = Knows s (tables_in (of_blocks s.blocks) words)
+
+-- ---- Free blocks
+
+-- how many of the first so many blocks are Free
+unfoldable pub free_below : Tables → ℕ → ℕ
+free_below t zero = 0
+free_below t (suc b) = free_below t b + (if t.states b == 0 then 1 else 0)
+
+-- a block of a space of so many is known: its lines are
+abbrev pub IsKnown : Settled → ℕ → ℕ → Type 0
+IsKnown s blocks b = (s.blocks ≡ blocks) × IsSettled s b
+
+-- how many of the first so many blocks, of a space of so many, are known to be Free: all their lines are open
+unfoldable pub known_free_below : Settled → ℕ → ℕ → ℕ
+known_free_below s blocks zero = 0
+known_free_below s blocks (suc b) = known_free_below s blocks b + (if (s.blocks == blocks) && (slice_index s.longest b == FULL) then 1 else 0)
 
 -- ---- what a write changes
 
@@ -172,8 +207,14 @@ WordTouches word.Decrements block t u = SameLines t u
 WordTouches word.Remembered block t u = SameLines t u
 WordTouches word.Cursors block t u = SameLines t u
 
+-- what a write may change of lines that is known by its place alone
+abbrev pub PlaceTouches : Told → Tables → Tables → Type 0
+PlaceTouches told.Nothing t u = SameLines t u
+PlaceTouches (told.Counts block) t u = Disturbs block t u
+PlaceTouches told.Lines t u = ⊤
+
 -- What an epoch keeps of lines: where objects begin, which lines are out, the states of blocks, and each count that is no object's.
-pub record KeepsLines (t u : Tables) : Type 0 where
+pub record KeepsOpenLines (t u : Tables) : Type 0 where
   pub starts : (g : ℕ) → u.starts g ≡ t.starts g
   pub outs : (line : ℕ) → u.outs line ≡ t.outs line
   pub states : (b : ℕ) → u.states b ≡ t.states b

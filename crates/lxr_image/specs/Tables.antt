@@ -1,5 +1,5 @@
 -- The words of a space as tables: all that the layers above see of them.
-use Rattle.std.specs.Prelude.{ℕ, ◌==◌, Bool, List, [], ◌∷◌, take, drop, length, slice_index, slice_index_or, nat_eq, if◌then◌else◌}
+use Rattle.std.specs.Prelude.{ℕ, ◌+◌, ◌-◌, ◌==◌, ◌&&◌, Bool, List, [], ◌∷◌, take, drop, length, slice_index, slice_index_or, nat_eq, nat_le, nat_lt, if◌then◌else◌}
 use Rattle.lxr_layout.specs.declared.limits.Limits.{Limits}
 use Rattle.lxr_layout.specs.declared.TheConstants.{COUNT_BITS}
 use Rattle.lxr_layout.specs.Spaces.{counts_region, cursors_region, decs_region, dones_region, frees_region, grays_region, heap_region, marks_region, outs_region, region_sizes, remembered_region, reuse_region, runs_region, starts_region, states_region, unlogged_region}
@@ -38,6 +38,10 @@ pub record Tables : Type 0 where
 -- a table with one entry changed
 abbrev pub changed : {A : Type 0} → (ℕ → A) → ℕ → A → ℕ → A
 changed f k v i = if nat_eq i k then v else f i
+
+-- a table with numbers written from an index on
+abbrev pub written : (ℕ → ℕ) → ℕ → List ℕ → ℕ → ℕ
+written f at xs i = if nat_le at i && nat_lt i (at + length xs) then slice_index xs (i - at) else f i
 
 -- words cut into regions of these sizes, in order
 abbrev pub cut : List ℕ → List ℕ → List (List ℕ)

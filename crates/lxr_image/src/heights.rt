@@ -1,28 +1,44 @@
 //! A number for each block of a heap, which is searched by groups of blocks.
-ghost use Rattle.std.specs.Prelude.{◌≡◌, ℕ, ◌<◌, ◌≤◌, [], IfOk, length, replicate, slice_get, slice_index, slice_set};
+ghost use Rattle.std.specs.Prelude.{◌≡◌, ℕ, ◌<◌, ◌≤◌, ◌==◌, [], IfOk, if◌then◌else◌, length, replicate, slice_get, slice_index, slice_set};
+ghost use Rattle.lxr_image.specs.declared.heights.TheConstants.{FULL};
+ghost use Rattle.lxr_image.specs.Heights.{full_among};
 
+use lxr_layout::LINES_IN_BLOCK;
 use std::alloc::{AllocError, Global};
 use std::marker::Model;
 
 /// How many blocks in a row are a group.
 const GROUP: usize = 64;
 
-/// A number for each block. For each group of blocks the highest of theirs is kept, so that a search passes over a group by one look.
+/// The number of a block that has all its lines in one run.
+pub const FULL: u8 = LINES_IN_BLOCK as u8;
+
+/// A number for each block. For each group of blocks the highest of theirs is kept, so that a search passes over a group by one look; and how
+/// many blocks have the number `FULL`.
 #[derive(Drop)]
 pub struct Heights {
     of_block: Vec<u8>,
     of_group: Vec<u8>,
+    full: usize,
 }
 
 impl Model for Heights {
-    ghost use Rattle.std.specs.Prelude.{ℕ, List};
-    ghost use Rattle.lxr_image.specs.Heights.{AreHighest};
+    ghost use Rattle.std.specs.Prelude.{◌≡◌, ℕ, List};
+    ghost use Rattle.lxr_image.specs.Heights.{AreHighest, full_among};
 
     ghost Value = { List ℕ };
 
     ghost view = { λ h. h.of_block.items };
 
-    ghost invariant = { λ h. AreHighest h.of_block.items h.of_group.items };
+    ghost invariant = { λ h. AreHighest h.of_block.items h.of_group.items × (h.full ≡ full_among h.of_block.items) };
+}
+
+/// One for the number `FULL`, and none for another.
+#[inline(always)]
+fn one_for_full(height: u8) -> usize
+    ensures { result ≡ if height == FULL then 1 else 0 }
+{
+    usize::from(height == FULL)
 }
 
 impl Heights {
@@ -33,6 +49,7 @@ impl Heights {
         Ok(Heights {
             of_block: vec![in alloc; height; blocks]?,
             of_group: vec![in alloc; height; blocks.div_ceil(GROUP)]?,
+            full: blocks * one_for_full(height),
         })
     }
 
@@ -43,6 +60,7 @@ impl Heights {
         Heights {
             of_block: Vec::new(alloc),
             of_group: Vec::new(alloc),
+            full: 0,
         }
     }
 
@@ -59,6 +77,14 @@ impl Heights {
     {
         self.of_block.fill(height);
         self.of_group.fill(height);
+        self.full = self.of_block.len() * one_for_full(height);
+    }
+
+    /// How many blocks have the number `FULL`.
+    pub fn count_full(&self) -> usize
+        ensures { result ≡ full_among self.now }
+    {
+        self.full
     }
 
     /// The number of a block.
@@ -77,6 +103,7 @@ impl Heights {
         ensures { self.new ≡ slice_set self.old block height }
     {
         let group = block / GROUP;
+        self.full = self.full - one_for_full(self.of_block[block]) + one_for_full(height);
         self.of_block[block] = height;
         if self.of_group[group] <= height {
             self.of_group[group] = height;

@@ -7,10 +7,13 @@
 //! an image of the graph.
 #![tactic(auto)]
 
+mod frees;
 mod heights;
+mod kept;
 mod laws;
 mod objects;
 mod open;
+mod places;
 mod registers;
 mod rest;
 mod settled;

@@ -1,7 +1,7 @@
 //! What a space has beside its words.
 ghost use Rattle.std.specs.Prelude.{◌≡◌, ℕ, List};
 ghost use Rattle.lxr_image.specs.Parts.{whole};
-ghost use Rattle.lxr_image.specs.Settled.{KeepsLines, KnowsWords};
+ghost use Rattle.lxr_image.specs.Settled.{KeepsOpenLines, KnowsWords};
 ghost use Rattle.lxr_image.specs.Tables.{tables_in};
 
 use crate::settled::Settled;
@@ -33,7 +33,7 @@ impl Rest {
     /// Helpers may have lowered counts since the words were taken out: what is known of lines is so of the words that the epoch has left, too.
     pub fn end_epoch(&mut self)
         ensures rest { (words : List ℕ) → whole words self.new ≡ whole words self.old }
-        ensures knows { (before after : List ℕ) → KnowsWords self.old.settled before → KeepsLines (tables_in self.old.limits before) (tables_in self.old.limits after) → KnowsWords self.new.settled after }
+        ensures knows { (before after : List ℕ) → KnowsWords self.old.settled before → KeepsOpenLines (tables_in self.old.limits before) (tables_in self.old.limits after) → KnowsWords self.new.settled after }
     {
         self.settled.distrust(self.limits.blocks);
     }

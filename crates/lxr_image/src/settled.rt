@@ -1,14 +1,17 @@
 //! What is known of the lines of blocks beside the words.
 //!
 //! A block is *settled* where its open lines, the longest run of these and its state are known, and *noted* where something may have changed
-//! since they were. So a pause looks at noted blocks alone, and reads counts of no other. What is known is a part of no contract above: a
-//! call answers what the tables say, and finds it without a look at them where it is known.
-ghost use Rattle.std.specs.Prelude.{◌≡◌, ℕ, ◌-◌, ◌^◌, ◌<◌, ◌≤◌, IfOk, IfSome, length};
+//! since they were. So a pause looks at noted blocks alone, and reads counts of no other. How much is known is a part of no contract above: a
+//! call answers what the tables say, and finds it without a look at them where it is known. Those who put words and what is known of them
+//! together say that it is so (`KnowsWords`).
+ghost use Rattle.std.specs.Prelude.{◌≡◌, ℕ, ◌-◌, ◌<◌, ◌≤◌, IfOk, IfSome, IsTrue, List, length, slice_set, true};
 ghost use Rattle.lxr_layout.specs.declared.TheConstants.{LINES_IN_BLOCK};
-ghost use Rattle.lxr_image.specs.Settled.{AgreeBut, AreClear, AreCounted, AreCountedIn, BitTouches, ChangesCount, Disturbs, HasNoLonger, IsMaskOfFree, KeepsLines, Knows, KnowsBlock, NoneIsOut, SameLines, StandsByLines, WordTouches};
+ghost use Rattle.lxr_image.specs.Settled.{AgreeBut, AreClear, AreCounted, AreCountedIn, AreKept, AreRunsOfFree, BitTouches, ChangesCount, Disturbs, HasNoLonger, IsMaskOfFree, IsKnown, IsSettled, KeepsOpenLines, Knows, KnowsBlock, KnowsWords, NoneIsOut, SameLines, StandsByLines, WordTouches, known_free_below};
 ghost use Rattle.lxr_image.specs.Tables.{Tables};
 
 use crate::heights::Heights;
+use crate::kept::KeptRuns;
+use crate::places::{Told, told_at};
 use crate::tables::{BitTable, WordTable};
 use lxr_layout::{GRANULES_IN_BLOCK, LINES_IN_BLOCK};
 use std::alloc::{AllocError, Global};
@@ -22,10 +25,12 @@ pub struct Settled {
     pub(crate) blocks: u32,
     /// How many lines the longest run of a settled block's open lines has; `NOTED` for each other block.
     pub(crate) longest: Heights,
-    /// 0 for each block of which no line is out.
+    /// 0 only for blocks of which no line is out; 1 for each other block, and for those of which it isn't known.
     pub(crate) handed: Heights,
     /// The open lines of each settled block.
     pub(crate) lines: Vec<u128>,
+    /// The runs of each block's lines, where they are kept.
+    pub(crate) runs: KeptRuns,
     /// Whether each object that begins in a settled block has a count, so that an open line is a free one.
     pub(crate) counted: bool,
     /// Whether all blocks are noted and may have lines out, so that there is nothing to forget.
@@ -35,7 +40,6 @@ pub struct Settled {
 impl Settled {
     /// What is known of a heap of so many blocks whose words are all 0: each block is free.
     pub(crate) fn new(alloc: Global, blocks: u32) -> Result<Settled, AllocError>
-        requires { blocks < 2 ^ 32 }
         ensures blocks { IfOk result (λ s. s.blocks ≡ blocks) }
         ensures knows { IfOk result (λ s. (t : Tables) → AreClear t → Knows s t) }
     {
@@ -45,6 +49,7 @@ impl Settled {
             longest: Heights::new(alloc, many, LINES_IN_BLOCK as u8)?,
             handed: Heights::new(alloc, many, 0)?,
             lines: vec![in alloc; u128::MAX; many]?,
+            runs: KeptRuns::new(alloc, many)?,
             counted: true,
             forgotten: false,
         })
@@ -59,6 +64,7 @@ impl Settled {
             longest: Heights::empty(alloc),
             handed: Heights::empty(alloc),
             lines: Vec::new(alloc),
+            runs: KeptRuns::empty(alloc),
             counted: true,
             forgotten: false,
         }
@@ -92,7 +98,7 @@ impl Settled {
 
     /// A write changes nothing of lines, in a space of so many blocks. In one of other blocks it may change anything.
     #[inline(always)]
-    pub(crate) fn note_other(&mut self, blocks: u32)
+    pub(crate) fn keep_known(&mut self, blocks: u32)
         requires longest { length self.old.longest ≡ self.old.blocks }
         requires handed { length self.old.handed ≡ self.old.blocks }
         ensures blocks { self.new.blocks ≡ self.old.blocks }
@@ -151,7 +157,7 @@ impl Settled {
             | WordTable::Frees
             | WordTable::Decrements
             | WordTable::Remembered
-            | WordTable::Cursors => self.note_other(blocks),
+            | WordTable::Cursors => self.keep_known(blocks),
         }
     }
 
@@ -171,6 +177,21 @@ impl Settled {
         }
     }
 
+    /// A word has changed, by its place among the words of the space, and nothing is said of what it means.
+    #[inline(always)]
+    pub(crate) fn note_place(&mut self, at: usize)
+        requires longest { length self.old.longest ≡ self.old.blocks }
+        requires handed { length self.old.handed ≡ self.old.blocks }
+        ensures blocks { self.new.blocks ≡ self.old.blocks }
+        ensures knows { (words : List ℕ) (value : ℕ) → KnowsWords self.old words → KnowsWords self.new (slice_set words at value) }
+    {
+        match told_at(self.blocks, at) {
+            Told::Nothing => {}
+            Told::Counts(block) => self.note(block),
+            Told::Lines => self.forget(),
+        }
+    }
+
     /// Notes all blocks: anything may have changed.
     pub(crate) fn forget(&mut self)
         ensures blocks { self.new.blocks ≡ self.old.blocks }
@@ -183,20 +204,34 @@ impl Settled {
         }
     }
 
+    /// These are the open lines of a block. Its runs stay kept where they are the same.
+    fn put_lines(&mut self, block: usize, lines: u128)
+        requires block { block < self.old.blocks }
+        requires many { (length self.old.lines.items ≡ self.old.blocks) × (length self.old.runs ≡ self.old.blocks) }
+        ensures lines { self.new.lines.items ≡ slice_set self.old.lines.items block lines }
+        ensures runs { AreKept self.old.blocks self.old.lines.items self.old.runs → AreKept self.old.blocks self.new.lines.items self.new.runs }
+        ensures rest { self.new ≡ record self.old { lines = self.new.lines; runs = self.new.runs } }
+    {
+        if self.lines[block] != lines {
+            self.lines[block] = lines;
+            self.runs.clear(block);
+        }
+    }
+
     /// A block is settled from now on: these are its open lines, and the longest run of them has so many.
     pub(crate) fn settle(&mut self, block: u32, lines: u128, longest: u8)
         requires block { block < self.old.blocks }
-        requires many { (length self.old.longest ≡ self.old.blocks) × (length self.old.lines.items ≡ self.old.blocks) }
+        requires many { (length self.old.longest ≡ self.old.blocks) × (length self.old.lines.items ≡ self.old.blocks) × (length self.old.runs ≡ self.old.blocks) }
         ensures blocks { self.new.blocks ≡ self.old.blocks }
         ensures knows { (t : Tables) → Knows self.old t → KnowsBlock t block lines longest → AreCountedIn t block → Knows self.new t }
     {
-        self.lines[block as usize] = lines;
+        self.put_lines(block as usize, lines);
         self.longest.put(block as usize, longest);
         self.forgotten = false;
     }
 
-    /// No line of a block is out.
-    pub(crate) fn note_none_out(&mut self, block: u32)
+    /// It is known from now on that no line of a block is out.
+    pub(crate) fn know_none_out(&mut self, block: u32)
         requires block { block < self.old.blocks }
         requires many { length self.old.handed ≡ self.old.blocks }
         ensures blocks { self.new.blocks ≡ self.old.blocks }
@@ -217,12 +252,24 @@ impl Settled {
     /// Helpers have lowered counts of objects: what is known of lines stays, and objects may be without a count. The space has so many blocks.
     pub(crate) fn distrust(&mut self, blocks: u32)
         ensures blocks { self.new.blocks ≡ self.old.blocks }
-        ensures knows { (t u : Tables) → Knows self.old t → (blocks ≡ self.old.blocks → KeepsLines t u) → Knows self.new u }
+        ensures knows { (t u : Tables) → Knows self.old t → (blocks ≡ self.old.blocks → KeepsOpenLines t u) → Knows self.new u }
     {
         self.counted = false;
         if blocks != self.blocks {
             self.forget();
         }
+    }
+
+    /// Whether the free lines of a block of a space of so many blocks are known.
+    #[inline(always)]
+    fn knows_free(&self, blocks: u32, block: u32) -> bool
+        requires many { length self.now.longest ≡ self.now.blocks }
+        ensures { IsTrue result → (self.now.blocks ≡ blocks) × IsSettled self.now block × (self.now.counted ≡ true) }
+    {
+        blocks == self.blocks
+            && block < blocks
+            && self.counted
+            && self.longest.at(block as usize) != NOTED
     }
 
     /// The free lines of a block of a space of so many blocks, where they are known.
@@ -232,13 +279,45 @@ impl Settled {
         ensures blocks { IfSome result (λ _. self.now.blocks ≡ blocks) }
         ensures lines { IfSome result (λ mask. (t : Tables) → Knows self.now t → IsMaskOfFree mask t block) }
     {
-        if blocks != self.blocks || block >= blocks || !self.counted {
-            return None;
-        }
-        if self.longest.at(block as usize) == NOTED {
+        if !self.knows_free(blocks, block) {
             return None;
         }
         Some(self.lines[block as usize])
+    }
+
+    /// The words of the runs of a block's free lines, of a space of so many blocks, where they are kept.
+    #[inline(always)]
+    pub(crate) fn known_runs(&self, blocks: u32, block: u32) -> Option<&[u64]>
+        requires many { (length self.now.longest ≡ self.now.blocks) × (length self.now.lines.items ≡ self.now.blocks) × (length self.now.runs ≡ self.now.blocks) }
+        ensures blocks { IfSome result (λ _. (self.now.blocks ≡ blocks) × (block < blocks)) }
+        ensures words { IfSome result (λ words. (t : Tables) → Knows self.now t → AreRunsOfFree words.now t block) }
+    {
+        if !self.knows_free(blocks, block) {
+            return None;
+        }
+        let words = self.runs.of(block as usize);
+        if words.is_empty() {
+            return None;
+        }
+        Some(words)
+    }
+
+    /// Keeps the words of the runs of a block's free lines, where these are known, in a space of so many blocks.
+    pub(crate) fn keep_runs(&mut self, blocks: u32, block: u32, words: &[u64])
+        requires many { (length self.old.longest ≡ self.old.blocks) × (length self.old.lines.items ≡ self.old.blocks) × (length self.old.runs ≡ self.old.blocks) }
+        ensures blocks { self.new.blocks ≡ self.old.blocks }
+        ensures knows { (t : Tables) → Knows self.old t → (blocks ≡ self.old.blocks → AreRunsOfFree words.now t block) → Knows self.new t }
+    {
+        if self.knows_free(blocks, block) {
+            self.runs.keep(block as usize, words);
+        }
+    }
+
+    /// Makes room for runs that found none when they were to be kept.
+    pub(crate) fn make_room(&mut self, alloc: Global)
+        ensures { self.new ≡ self.old }
+    {
+        self.runs.make_room(alloc);
     }
 
     /// The first block from one on, of a space of so many, that isn't known to have the state of its lines; where each is, how many there are.
@@ -249,6 +328,31 @@ impl Settled {
         ensures passed { from < result → (self.now.blocks ≡ blocks) × ((t : Tables) → Knows self.now t → (b : ℕ) → from ≤ b → b < result → StandsByLines t b) }
     {
         if blocks != self.blocks || !self.counted {
+            return from;
+        }
+        self.longest.next(from as usize, NOTED) as u32
+    }
+
+    /// How many blocks, of a space of so many, are known to be Free.
+    pub(crate) fn known_free_blocks(&self, blocks: u32) -> u32
+        requires many { length self.now.longest ≡ self.now.blocks }
+        ensures { result ≡ known_free_below self.now blocks blocks }
+    {
+        if blocks != self.blocks {
+            return 0;
+        }
+        self.longest.count_full() as u32
+    }
+
+    /// The first block from one on, of a space of so many, of which nothing is known; where there is none, how many there are.
+    pub(crate) fn next_unknown(&self, blocks: u32, from: u32) -> u32
+        requires many { length self.now.longest ≡ self.now.blocks }
+        requires from { from ≤ blocks }
+        ensures range { (from ≤ result) × (result ≤ blocks) }
+        ensures passed { (b : ℕ) → from ≤ b → b < result → IsKnown self.now blocks b }
+        ensures found { result < blocks → ¬ IsKnown self.now blocks result }
+    {
+        if blocks != self.blocks {
             return from;
         }
         self.longest.next(from as usize, NOTED) as u32

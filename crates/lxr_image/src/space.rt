@@ -28,7 +28,8 @@ pub struct Tally {
     pub kept: u64,
 }
 
-/// The words of a heap with its tables, and what stands beside them. All its memory is taken when it is opened.
+/// The words of a heap with its tables, and what stands beside them. All its memory is taken when it is opened, but that of
+/// the runs that are kept of blocks.
 #[derive(Drop)]
 pub struct Space {
     pub words: HeapWords,

@@ -3,10 +3,11 @@
 //! Each call says which entry of which table it reads or writes, as an equation of the tables; the places of the
 //! regions among the words are known here alone. A granule, line, block or heap word is given by its number in the
 //! heap, from 0.
-ghost use Rattle.std.specs.Prelude.{◌≡◌, ◌≢◌, ℕ, ◌+◌, ◌*◌, ◌/◌, ◌%◌, ◌^◌, ◌<◌, ◌≤◌, ◌↔◌, ◌==◌, IsBitSet, IsTrue, false, if◌then◌else◌, slice_index, true};
+ghost use Rattle.std.specs.Prelude.{◌≡◌, ◌≢◌, ℕ, ◌+◌, ◌*◌, ◌/◌, ◌%◌, ◌^◌, ◌<◌, ◌≤◌, ◌↔◌, ◌==◌, IsBitSet, IsTrue, false, if◌then◌else◌, length, slice_index, true};
 ghost use Rattle.std.specs.Int.{bit_at};
 ghost use Rattle.lxr_layout.specs.declared.TheConstants.{GRANULES_IN_BLOCK, GRANULES_IN_LINE, LINES_IN_BLOCK, STUCK, WORDS_IN_BLOCK};
 ghost use Rattle.lxr_image.specs.Reads.{is_tracing};
+ghost use Rattle.lxr_image.specs.Runs.{with_runs};
 ghost use Rattle.lxr_image.specs.Settled.{block_of_bit};
 ghost use Rattle.lxr_image.specs.Spaces.{IsSpace, Turns, bit_region, bit_table, tables_of, with_bit, with_bit_word, with_word, word_region, word_table};
 ghost use Rattle.lxr_image.specs.Tables.{changed};
@@ -129,7 +130,7 @@ impl Space {
         requires index { index < 64 * slice_index (region_sizes self.old.limits) (bit_region table) }
         ensures { Turns self.old self.new (with_bit (tables_of self.old) table index true) }
     {
-        self.words.set_bit(self.limits, table, index);
+        self.words.put_bit(self.limits, table, index, true);
     }
 
     #[inline(always)]
@@ -138,7 +139,7 @@ impl Space {
         requires index { index < 64 * slice_index (region_sizes self.old.limits) (bit_region table) }
         ensures { Turns self.old self.new (with_bit (tables_of self.old) table index false) }
     {
-        self.words.clear_bit(self.limits, table, index);
+        self.words.put_bit(self.limits, table, index, false);
     }
 
     #[inline(always)]
@@ -519,6 +520,15 @@ impl Space {
             Turns self.old self.new (record t { runs = changed t.runs at value }) }
     {
         self.put_word_in(WordTable::Runs, at as usize, value);
+    }
+
+    /// Writes words of runs to the run table from an index on.
+    pub fn put_runs(&mut self, at: u32, words: &[u64])
+        requires space { IsSpace self.old }
+        requires at { at + length words.now ≤ 64 * self.old.limits.blocks }
+        ensures { Turns self.old self.new (with_runs (tables_of self.old) at words.now) }
+    {
+        self.words.put_runs(self.limits, at, words);
     }
 
     /// A block number of the table of free blocks.

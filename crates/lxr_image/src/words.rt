@@ -1,7 +1,7 @@
 //! The words of a space, and what is known of lines beside them.
-ghost use Rattle.std.specs.Prelude.{◌≡◌, ◌≢◌, ℕ, ◌+◌, ◌-◌, ◌*◌, ◌<◌, ◌≤◌, [], true, false, IfOk, IfSome, length, replicate, slice_index, slice_set};
+ghost use Rattle.std.specs.Prelude.{◌≡◌, ◌≢◌, ℕ, ◌+◌, ◌-◌, ◌*◌, ◌<◌, ◌≤◌, List, [], true, false, IfNone, IfOk, IfSome, length, replicate, slice_index, slice_set};
 ghost use Rattle.lxr_layout.specs.declared.TheConstants.{GRANULES_IN_BLOCK, LINES_IN_BLOCK, STUCK};
-ghost use Rattle.lxr_layout.specs.Spaces.{AreLimits, all_regions, counts_region, region_begin, region_sizes, reuse_region};
+ghost use Rattle.lxr_layout.specs.Spaces.{AreLimits, all_regions, counts_region, region_begin, region_sizes, reuse_region, runs_region};
 ghost use Rattle.lxr_tables.specs.Counts.{lowered_count, lowered_of, raised_count};
 
 use crate::settled::Settled;
@@ -34,7 +34,8 @@ impl Model for HeapWords {
 }
 
 impl HeapWords {
-    ghost use Rattle.lxr_image.specs.Settled.{AreCounted, AreCountedIn, HasLongest, HasNoLonger, IsMaskOfFree, KnowsWords, NoneIsOut, StandsByLines};
+    ghost use Rattle.lxr_image.specs.Settled.{AreCounted, AreCountedIn, AreRunsOfFree, HasLongest, HasNoLonger, IsFreeByLines, IsMaskOfFree, KnowsWords, NoneIsOut, StandsByLines, free_below};
+    ghost use Rattle.lxr_image.specs.Runs.{with_runs};
     ghost use Rattle.lxr_image.specs.Spaces.{bit_region, with_bit, with_bit_word, with_word, word_region};
     ghost use Rattle.lxr_image.specs.Tables.{changed, tables_in};
 
@@ -75,30 +76,22 @@ impl HeapWords {
         HeapWords { plain, settled }
     }
 
-    /// Sets a bit of a table.
+    /// Sets or clears a bit of a table.
     #[inline(always)]
-    pub(crate) fn set_bit(&mut self, limits: Limits, table: BitTable, index: usize)
+    pub(crate) fn put_bit(&mut self, limits: Limits, table: BitTable, index: usize, bit: bool)
         requires limits { AreLimits limits }
         requires size { length self.old ≡ region_begin limits all_regions }
         requires index { index < 64 * slice_index (region_sizes limits) (bit_region table) }
-        ensures { tables_in limits self.new ≡ with_bit (tables_in limits self.old) table index true }
+        ensures { tables_in limits self.new ≡ with_bit (tables_in limits self.old) table index bit }
     {
         self.settled
             .note_bit(limits.blocks, table, table.block_of(index));
-        set_bit(&mut self.plain, table.begin(limits), index);
-    }
-
-    /// Clears a bit of a table.
-    #[inline(always)]
-    pub(crate) fn clear_bit(&mut self, limits: Limits, table: BitTable, index: usize)
-        requires limits { AreLimits limits }
-        requires size { length self.old ≡ region_begin limits all_regions }
-        requires index { index < 64 * slice_index (region_sizes limits) (bit_region table) }
-        ensures { tables_in limits self.new ≡ with_bit (tables_in limits self.old) table index false }
-    {
-        self.settled
-            .note_bit(limits.blocks, table, table.block_of(index));
-        clear_bit(&mut self.plain, table.begin(limits), index);
+        let begin = table.begin(limits);
+        if bit {
+            set_bit(&mut self.plain, begin, index);
+        } else {
+            clear_bit(&mut self.plain, begin, index);
+        }
     }
 
     /// Writes a word of a table of bits: those of 64 entries in a row.
@@ -126,6 +119,40 @@ impl HeapWords {
         self.plain.set(table.begin(limits) + index, value);
     }
 
+    /// Writes words to the run table from an index on.
+    pub(crate) fn put_runs(&mut self, limits: Limits, at: u32, words: &[u64])
+        requires limits { AreLimits limits }
+        requires size { length self.old ≡ region_begin limits all_regions }
+        requires at { at + length words.now ≤ slice_index (region_sizes limits) runs_region }
+        ensures { tables_in limits self.new ≡ with_runs (tables_in limits self.old) at words.now }
+    {
+        self.settled.keep_known(limits.blocks);
+        self.plain
+            .set_all(WordTable::Runs.begin(limits) + at as usize, words);
+    }
+
+    /// Writes the words of the runs of a block's free lines to the run table from an index on, where they are kept, and answers how many there are.
+    pub(crate) fn put_known_runs(&mut self, limits: Limits, block: u32, at: u32) -> Option<u32>
+        requires limits { AreLimits limits }
+        requires size { length self.old ≡ region_begin limits all_regions }
+        requires at { at ≤ 64 * block }
+        ensures none { IfNone result (self.new ≡ self.old) }
+        ensures some { IfSome result (λ many. (words : List ℕ) × AreRunsOfFree words (tables_in limits self.old) block × (many ≡ length words) × (tables_in limits self.new ≡ with_runs (tables_in limits self.old) at words)) }
+    {
+        let words = self.settled.known_runs(limits.blocks, block)?;
+        self.plain
+            .set_all(WordTable::Runs.begin(limits) + at as usize, words);
+        Some(words.len() as u32)
+    }
+
+    /// Keeps the words of the runs of a block's free lines, where these are known.
+    pub(crate) fn keep_runs(&mut self, limits: Limits, block: u32, words: &[u64])
+        requires { AreRunsOfFree words.now (tables_in limits self.old) block }
+        ensures { self.new ≡ self.old }
+    {
+        self.settled.keep_runs(limits.blocks, block, words);
+    }
+
     /// Writes a word of the table of reuse counters, two lines' in a word.
     #[inline(always)]
     pub(crate) fn put_reuse(&mut self, limits: Limits, at: u32, value: u64)
@@ -134,7 +161,7 @@ impl HeapWords {
         requires at { at < slice_index (region_sizes limits) reuse_region }
         ensures { self.new ≡ slice_set self.old (region_begin limits reuse_region + at) value }
     {
-        self.settled.note_other(limits.blocks);
+        self.settled.keep_known(limits.blocks);
         self.plain
             .set(regions(limits).reuse as usize + at as usize, value);
     }
@@ -188,12 +215,20 @@ impl HeapWords {
         lowered
     }
 
+    /// Makes room for runs that found none when they were to be kept.
+    pub(crate) fn make_room(&mut self, alloc: Global)
+        ensures { self.new ≡ self.old }
+    {
+        self.settled.make_room(alloc);
+    }
+
     /// A block is settled from now on: these are its free lines, the longest run of them has so many, and it has the state of its lines.
     pub(crate) fn settle(&mut self, limits: Limits, block: u32, free: u128, longest: u8)
         requires block { block < limits.blocks }
         requires free { IsMaskOfFree free (tables_in limits self.old) block }
         requires longest { HasLongest (tables_in limits self.old) block longest }
         requires state { StandsByLines (tables_in limits self.old) block }
+        requires whole { IsFreeByLines (tables_in limits self.old) block }
         requires counted { AreCountedIn (tables_in limits self.old) block }
         ensures { self.new ≡ self.old }
     {
@@ -202,14 +237,14 @@ impl HeapWords {
         }
     }
 
-    /// No line of a block is out.
-    pub(crate) fn note_none_out(&mut self, limits: Limits, block: u32)
+    /// It is known from now on that no line of a block is out.
+    pub(crate) fn know_none_out(&mut self, limits: Limits, block: u32)
         requires block { block < limits.blocks }
         requires none { NoneIsOut (tables_in limits self.old) block }
         ensures { self.new ≡ self.old }
     {
         if limits.blocks == self.settled.blocks {
-            self.settled.note_none_out(block);
+            self.settled.know_none_out(block);
         }
     }
 
@@ -258,6 +293,15 @@ impl HeapWords {
     {
         self.settled.next_handed(limits.blocks, from)
     }
+
+    /// How many blocks are Free.
+    pub(crate) fn free_blocks(&self, limits: Limits) -> u32
+        requires limits { AreLimits limits }
+        requires size { length self.now ≡ region_begin limits all_regions }
+        ensures { result ≡ free_below (tables_in limits self.now) limits.blocks }
+    {
+        self.settled.free_blocks(&self.plain, limits)
+    }
 }
 
 /// The count before and after a lowering that ended so.
@@ -272,7 +316,8 @@ fn change_of(lowered: Lowered) -> (u8, u8)
     }
 }
 
-/// Words that are written one at a time by who says nothing of what they mean: then nothing is known of lines any more.
+/// Words that are written one at a time, by who says nothing of what they mean: what a write changes of lines is told by its place. It notes a
+/// block where it is of the block's counts, and forgets all that is known where it is of starts, outs or states.
 impl Words for HeapWords {
     ghost words_of = { λ w. w };
 
@@ -288,7 +333,7 @@ impl Words for HeapWords {
 
     #[inline(always)]
     fn set(&mut self, at: usize, value: u64) {
-        self.settled.forget();
+        self.settled.note_place(at);
         self.plain.set(at, value);
     }
 }

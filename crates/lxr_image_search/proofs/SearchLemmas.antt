@@ -1,5 +1,5 @@
 -- The bits of a word from one on tell of the granules from one on; the lowest that is set is the first that has what is wanted.
-use Rattle.std.proofs.Common.{◌≡◌, ◌≢◌, ℕ, zero, suc, ◌+◌, ◌-◌, ◌*◌, ◌/◌, ◌%◌, ◌^◌, ◌<◌, ◌≤◌, refl, sym, ap, ◌∙◌, inl, inr, arith, Bool, false, w64}
+use Rattle.std.proofs.Common.{◌≡◌, ◌≢◌, ℕ, zero, suc, ◌+◌, ◌-◌, ◌*◌, ◌/◌, ◌%◌, ◌^◌, ◌<◌, refl, sym, ap, ◌∙◌, inl, inr, arith, Bool, false, w64}
 use Rattle.std.specs.Prelude.{◌↔◌, ◌==◌, ◌&&◌, not, min, IsBitSet, IsTrue}
 use Rattle.std.specs.Int.{bit_at, bit_not, trailing_zeros}
 use Rattle.std.specs.Int.Bits.{bit_and, bit_or}
@@ -85,11 +85,15 @@ module _ (t : Tables) (wanted : Wanted) (at mask : ℕ) (fits : mask < 2 ^ 64) (
 pub none_further : (t : Tables) (wanted : Wanted) (from at to : ℕ) → NoneWanted t wanted from at → NoneWanted t wanted at to → NoneWanted t wanted from to
 none_further t wanted from at to before behind k above below = elim (leb_tells at k) [ inl c ↦ behind k c.1 below | inr c ↦ before k above c.1 ]
 
--- where a word of bits is 0, none of its 64 bits is set
-pub zero_word : (f : ℕ → Bool) (at word : ℕ) → ((i : ℕ) → i < 64 → f (64 * at + i) ≡ (bit_at word i == 1)) → word ≡ 0 → (k : ℕ) → 64 * at ≤ k → k < 64 * at + 64 → f k ≡ false
-zero_word f at word tells clear k from below =
-    let place : 64 * at + (k - 64 * at) ≡ k = omega (arith, from) in
-    ap f (sym place) ∙ tells (k - 64 * at) (omega (arith, from, below)) ∙ ap (λ w. bit_at w (k - 64 * at) == 1) clear ∙ ap (λ b. b == 1) (bit_at-zero (k - 64 * at))
+-- where no bit of a word is set, none of its 64 granules has what is wanted
+pub none_of_word : (t : Tables) (wanted : Wanted) (at mask : ℕ) → TellsWanted t wanted at mask → mask ≡ 0 → NoneWanted t wanted (64 * at) (64 * at + 64)
+none_of_word t wanted at mask tells clear k from below =
+    let i : ℕ = k - 64 * at in
+    let place : 64 * at + i ≡ k = omega (arith, from) in
+    ap (is_wanted t wanted) (sym place) ∙ false_from_ne_true (is_wanted t wanted (64 * at + i)) (λ yes.
+    let one = set_is_one mask i ((tells i (omega (arith, from, below))).1 yes) in
+    let none = ap (λ w. bit_at w i) clear ∙ bit_at-zero i in
+    absurd (omega (arith, one, none)))
 
 -- what was seen and one word more are 0 only where both are
 pub none_seen : (t : Tables) (wanted : Wanted) (block at seen hint : ℕ) → (seen ≡ 0 → NoneWanted t wanted (GRANULES_IN_BLOCK * block) (64 * at))

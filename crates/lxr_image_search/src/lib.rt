@@ -35,34 +35,22 @@ fn wanted_word(space: &Space, wanted: Wanted, at: u32) -> u64
     }
 }
 
-/// Bits of which none is set where none of 64 granules in a row has a wanted object. To look at them costs one read.
+/// Whether a block has a wanted object. Its looks, one for 64 granules, don't wait for one another.
 #[inline(always)]
-fn wanted_hint(space: &Space, wanted: Wanted, at: u32) -> u64
-    requires space { IsSpace space.now }
-    requires at { at < 32 * space.now.limits.blocks }
-    ensures { result ≡ 0 → NoneWanted (tables_of space.now) wanted (64 * at) (64 * at + 64) }
-{
-    match wanted {
-        Wanted::Object | Wanted::Unmarked => space.start_word(at),
-        Wanted::ToScan => space.gray_word(at),
-    }
-}
-
-/// Whether a block that isn't Free may have a wanted object. Its looks, one for 64 granules, don't wait for one another.
-#[inline(always)]
-fn has_hint(space: &Space, wanted: Wanted, block: u32) -> bool
+fn has_wanted(space: &Space, wanted: Wanted, block: u32) -> bool
     requires space { IsSpace space.now }
     requires block { block < space.now.limits.blocks }
     ensures { result ≡ false → NoneWanted (tables_of space.now) wanted (GRANULES_IN_BLOCK * block) (GRANULES_IN_BLOCK * (block + 1)) }
 {
     let mut seen = 0;
     for at in 32 * block..32 * block + 32 {
-        seen |= wanted_hint(space, wanted, at);
+        seen |= wanted_word(space, wanted, at);
     }
     seen != 0
 }
 
-/// The first block from one on that isn't Free and may have a wanted object. What isn't Free costs its looks, one for 64 granules.
+/// The first block from one on that isn't Free and may have a wanted object: none that was passed by has one. What isn't Free costs its looks,
+/// one for 64 granules.
 #[inline(always)]
 pub fn next_block(space: &Space, wanted: Wanted, from: u32) -> Option<u32>
     requires space { IsSpace space.now }
@@ -72,7 +60,7 @@ pub fn next_block(space: &Space, wanted: Wanted, from: u32) -> Option<u32>
 {
     let mut at = from;
     while let Some(block) = next_in_use(space, at) {
-        if has_hint(space, wanted, block) {
+        if has_wanted(space, wanted, block) {
             return Some(block);
         }
         at = block + 1;

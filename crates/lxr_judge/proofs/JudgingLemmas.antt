@@ -55,9 +55,9 @@ behind_is p order items n answer same is = let e : items + 1 ≡ suc n = omega (
 
 -- ---- operations
 
--- an operation of a thread is well formed
-pub formed_next : (e : Evidence) (t k : ℕ) (o : Op) → IsReadable e → 1 ≤ t → t ≤ e.terms.threads → slice_get (operations_of e.script t) k ≡ Some o → IsWellFormed o
-formed_next e t k o readable low high at =
+-- an operation of a thread names registers of scripts
+scripted_next : (e : Evidence) (t k : ℕ) (o : Op) → IsReadable e → 1 ≤ t → t ≤ e.terms.threads → slice_get (operations_of e.script t) k ≡ Some o → IsFormedFor SCRIPT_REGISTERS o
+scripted_next e t k o readable low high at =
     let os = slice_index_or e.script (t - 1) [] in
     let inside : t - 1 < length e.script = omega (arith, low, high, readable.threads) in
     let thread = readable.script.each (t - 1) [] inside in
@@ -65,10 +65,10 @@ formed_next e t k o readable low high at =
     elim (cases_Bool (nat_eq k (length os))) [
       | inl last ↦
           let is : op.End ≡ o = same_Some op.End o (sym (cond-true (nat_eq k (length os)) (Some op.End) (slice_get os k) last) ∙ found) in
-          subst IsWellFormed is tt
+          subst (IsFormedFor SCRIPT_REGISTERS) is tt
       | inr other ↦
           let there : slice_get os k ≡ Some o = sym (cond-false (nat_eq k (length os)) (Some op.End) (slice_get os k) other) ∙ found in
-          formed_more SCRIPT_REGISTERS REGISTERS o (lit≤ tt) (subst (IsFormedFor SCRIPT_REGISTERS) (get_or_from_slice_get os k o op.End there) (thread.each k op.End (slice_get_within os k o there)).well_formed)
+          subst (IsFormedFor SCRIPT_REGISTERS) (get_or_from_slice_get os k o op.End there) (thread.each k op.End (slice_get_within os k o there)).well_formed
     ]
 
 -- the calls of a thread are the first of its operations
@@ -329,7 +329,12 @@ row_there e j t judging low =
 -- an operation that was found is well formed
 pub formed_some : (e : Evidence) (t k : ℕ) (found : Option Op) → found ≡ slice_get (operations_of e.script t) k → 1 ≤ t → t ≤ e.terms.threads → IsReadable e → IfSome found IsWellFormed
 formed_some e t k None is low high readable = tt
-formed_some e t k (Some o) is low high readable = formed_next e t k o readable low high (sym is)
+formed_some e t k (Some o) is low high readable = formed_more SCRIPT_REGISTERS REGISTERS o (lit≤ tt) (scripted_next e t k o readable low high (sym is))
+
+-- and names registers that the terms allow
+pub named_some : (e : Evidence) (t k : ℕ) (found : Option Op) → found ≡ slice_get (operations_of e.script t) k → 1 ≤ t → t ≤ e.terms.threads → IsReadable e → IfSome found (IsFormedFor e.terms.registers)
+named_some e t k None is low high readable = tt
+named_some e t k (Some o) is low high readable = subst (λ n. IsFormedFor n o) (sym readable.registers) (scripted_next e t k o readable low high (sym is))
 
 -- the reply of the step that a position took is that of the step behind h
 pub step_is : (e : Evidence) (j : Judging) (h : List Item) (t : ℕ) (o : Op) (r : Reply) (after : State) → Keeps e j h → step j.position.state t o ≡ (after, r) → (step (state_at e.terms h) t o).1 ≡ r

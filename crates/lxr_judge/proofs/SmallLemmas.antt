@@ -22,7 +22,7 @@ use Rattle.lxr_graph.specs.declared.report.Kind.{Kind}
 use Rattle.lxr_graph.specs.declared.report.Kind.TheVariants as kind
 use Rattle.lxr_graph.specs.Names.{AreInOrder, has, name_order, same_held, same_name, union, without}
 use Rattle.lxr_graph.specs.State.{Graph, HasObject, Object, State, next_name, object_at, opening, refs_of, row_of, world, first_serial, index_in_row}
-use Rattle.lxr_graph.specs.Step.{IsWellFormed, step}
+use Rattle.lxr_graph.specs.Step.{IsFormedFor, step}
 use Rattle.lxr_graph.specs.History.{PauseReport, Item, Call, Pause, Renew}
 use Rattle.lxr_graph.proofs.NameLemmas.{rank_order}
 use Rattle.lxr_graph.proofs.NameSets.{same_itself, union_cases, without_parts}
@@ -327,11 +327,11 @@ opening_modest threads n o is = row_modest threads n.thread (index_in_row n) o (
     found true e = e
     found false e = absurd (none-some o e)
 
-puts_few : (o : Op) → IsWellFormed o → IsWritten o ⊎ (o ≡ op.End) → PutsFew o
-puts_few (op.New dest shape) formed written = formed.1.0
-puts_few (op.Put base index value) formed (inl written) = written.1
-puts_few (op.Put base index value) formed (inr last) = cc
-puts_few o formed written = tt
+puts_few : (registers : ℕ) (o : Op) → IsFormedFor registers o → IsWritten o ⊎ (o ≡ op.End) → PutsFew o
+puts_few registers (op.New dest shape) formed written = formed.1.0
+puts_few registers (op.Put base index value) formed (inl written) = written.1
+puts_few registers (op.Put base index value) formed (inr last) = cc
+puts_few registers o formed written = tt
 
 -- below the whole, names are never renewed either
 whole_below : (terms : Terms) (script : Script) (above h : List Item) → IsWhole terms script (onto above h) → IsUnrenewed h
@@ -347,7 +347,7 @@ modest_at terms script above (Call t o r ∷ h) whole =
     let call = legal.2 in
     let rows = rows_are terms.threads h (whole_below terms script above (Call t o r ∷ h) whole) in
     let before = modest_at terms script (Call t o r ∷ above) h whole in
-    let few = puts_few o call.operation (written_at terms script above h t o r whole call.thread.0 call.thread.1) in
+    let few = puts_few terms.registers o call.operation (written_at terms script above h t o r whole call.thread.0 call.thread.1) in
     elim (after_cases s t o r) [
       | inl same ↦ subst (λ (z : State). AreModest z.graph) (sym same) before
       | inr next ↦ subst (λ (z : State). AreModest z.graph) (sym next) (step_modest s t o (omega (arith, rows, call.thread.1)) few before)

@@ -8,7 +8,7 @@ use Rattle.lxr_graph.specs.declared.Op.{Op}
 use Rattle.lxr_graph.specs.declared.Reply.{Reply}
 use Rattle.lxr_graph.specs.declared.report.Kind.{Kind}
 use Rattle.lxr_graph.specs.declared.report.Kind.TheVariants as kind
-use Rattle.lxr_graph.specs.Step.{IsWellFormed}
+use Rattle.lxr_graph.specs.Step.{IsFormedFor}
 use Rattle.lxr_graph.specs.History.{PauseReport, Item, Call, Pause, Renew}
 use Rattle.lxr_text_script.specs.Lines.{Text}
 use Rattle.lxr_text_print.specs.Reports.{report_text}
@@ -88,7 +88,7 @@ pause_passed e h k report is passes =
 -- ---- calls
 
 -- where all tests hold, a call passes
-pub call_passes : (e : Evidence) (h : List Item) (t : ℕ) (o : Op) (r : Reply) → slice_get e.order (length h) ≡ Some (ordered_as.Call t) → 1 ≤ t → t ≤ e.terms.threads → next_operation e.script t h ≡ Some o → IsWellFormed o
+pub call_passes : (e : Evidence) (h : List Item) (t : ℕ) (o : Op) (r : Reply) → slice_get e.order (length h) ≡ Some (ordered_as.Call t) → 1 ≤ t → t ≤ e.terms.threads → next_operation e.script t h ≡ Some o → IsFormedFor e.terms.registers o
     → Replies e.terms h t o r → IsPrinted o r (next_line e t h) → has_asked t h ≡ false → calls_since_pause t h ≤ e.terms.every → Passes e h (Call t o r)
 call_passes e h t o r place low high next formed replies printed asked since = record {
   takes = rw place (refl, next, printed);
@@ -222,7 +222,7 @@ same_next : (next : Option Op) (o p : Op) → next ≡ Some o → next ≡ Some 
 same_next next o p a b = cc
 
 -- the trial of an operation tells of the item
-pub call_tried : (e : Evidence) (h : List Item) (t : ℕ) (o : Op) (j : Judging) (b : Bool) → slice_get e.order (length h) ≡ Some (ordered_as.Call t) → (1 ≤ t) × (t ≤ e.terms.threads) → next_operation e.script t h ≡ Some o → IsWellFormed o
+pub call_tried : (e : Evidence) (h : List Item) (t : ℕ) (o : Op) (j : Judging) (b : Bool) → slice_get e.order (length h) ≡ Some (ordered_as.Call t) → (1 ≤ t) × (t ≤ e.terms.threads) → next_operation e.script t h ≡ Some o → IsFormedFor e.terms.registers o
     → (has_asked t h ≡ false) × (calls_since_pause t h ≤ e.terms.every) → TriedCall e h t o j b → Tried e h j b
 call_tried e h t o j true place thread next formed points tried =
     (Call t o tried.0, call_passes e h t o tried.0 place thread.0 thread.1 next formed tried.1 tried.2 points.0 points.1, tried.3)

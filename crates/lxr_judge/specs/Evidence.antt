@@ -1,5 +1,6 @@
 -- What a judge has before it: the script and the terms, the lines of a finished output, and an order of calls and pauses.
 use Rattle.std.specs.Prelude.{ℕ, ◌+◌, ◌-◌, ◌/◌, Bool, false, List, length, take, drop, slice_index_or}
+use Rattle.lxr_text_script.specs.declared.TheConstants.{SCRIPT_REGISTERS}
 use Rattle.lxr_text_script.specs.Lines.{Text}
 use Rattle.lxr_text_script.specs.Reading.{threads_in}
 use Rattle.lxr_judge_output.specs.Form.{Grouped, Gathered}
@@ -46,6 +47,7 @@ reply_lines e t = group e.output.replies (t - 1)
 abbrev pub terms_of : ℕ → given.Terms → Terms
 terms_of threads terms = record {
   threads = threads;
+  registers = SCRIPT_REGISTERS;
   blocks = terms.blocks;
   evacuate = terms.blocks / 8;
   every = terms.every;

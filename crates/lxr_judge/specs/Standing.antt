@@ -8,6 +8,7 @@ use Rattle.lxr_graph.specs.declared.Reply.TheVariants as reply
 use Rattle.lxr_graph.specs.declared.report.Kind.{Kind}
 use Rattle.lxr_graph.specs.declared.report.Kind.TheVariants as kind
 use Rattle.lxr_graph.specs.History.{PauseReport, Item, Call, Pause, calls_of}
+use Rattle.lxr_text_script.specs.declared.TheConstants.{SCRIPT_REGISTERS}
 use Rattle.lxr_text_script.specs.Lines.{Text}
 use Rattle.lxr_text_script.specs.Limits.{IsScript}
 use Rattle.lxr_model.specs.Moments.{Moment, moment}
@@ -21,10 +22,12 @@ use Rattle.lxr_judge.specs.Taking.{IsLineOf, IsPrinted, next_line}
 use Rattle.lxr_judge.specs.Passing.{HasNextCall, IsWaiting, HasReason, Passes, AllPass}
 use Rattle.lxr_judge.specs.Progress.{Tells}
 
--- evidence that a judge can read: the threads of a script that was read, and an order with few enough items to be counted
+-- evidence that a judge can read: the threads of a script that was read, whose operations may name as many registers as any script's, and an
+-- order with few enough items to be counted
 pub record IsReadable (e : Evidence) : Type 0 where
   pub script : IsScript e.script
   pub threads : e.terms.threads ≡ length e.script
+  pub registers : e.terms.registers ≡ SCRIPT_REGISTERS
   pub order : length e.order + 1 < 2 ^ 32
 
 -- a judge stands behind history h: its position and what else it keeps are of h, and its page is empty

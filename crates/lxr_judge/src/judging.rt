@@ -4,7 +4,7 @@ ghost use Rattle.std.specs.Option.{IfSome, option_map};
 ghost use Rattle.lxr_layout.specs.Objects.{FitsShape};
 ghost use Rattle.lxr_graph.specs.declared.Op.{Op};
 ghost use Rattle.lxr_graph.specs.History as history;
-ghost use Rattle.lxr_graph.specs.Step.{IsWellFormed};
+ghost use Rattle.lxr_graph.specs.Step.{IsFormedFor, IsWellFormed};
 ghost use Rattle.lxr_model.specs.Belongs.{EndsWithPause, calls_since_pause, has_asked};
 ghost use Rattle.lxr_model.specs.Belongs as belongs;
 ghost use Rattle.lxr_model.specs.Full.{MayBeFull};
@@ -64,6 +64,7 @@ impl Judging {
         requires few { sources.now.terms.threads ≤ 16 }
         ensures exact { (h : List history.Item) → Tells sources.now.terms self.now.progress h → result ≡ belongs.next_operation sources.now.script thread h }
         ensures formed { IsReadable sources.now → IfSome result IsWellFormed }
+        ensures named { IsReadable sources.now → IfSome result (IsFormedFor sources.now.terms.registers) }
     {
         sources.operation(thread, self.progress.calls_of(thread) as usize)
     }

@@ -1,8 +1,8 @@
 -- The numbers of the geometry and of the cursors.
 use Rattle.std.specs.Prelude.{◌≡◌, ◌*◌, ◌^◌}
-use Rattle.lxr_layout.specs.declared.TheConstants.{COUNT_BITS, COUNT_WORDS_IN_BLOCK, DECREMENT_COUNT, DECREMENT_CURSOR, FREE_BLOCK_COUNT, FREE_BLOCK_CURSOR, GRANULES_IN_BLOCK, GRANULES_IN_LINE, LINES_IN_BLOCK, MOST_BLOCKS, MOST_BLOCKS_OF_SMALL, MOST_GRANULES, MOST_WORDS, PAUSE_WORD, REGISTERS, REMEMBERED_CURSOR, RUN_COUNT, RUN_CURSOR, STUCK, TRACING_WORD, WORDS_IN_BLOCK, WORDS_IN_LINE, WORLD_LINES, WORLD_REFS}
+use Rattle.lxr_layout.specs.declared.TheConstants.{COUNT_BITS, COUNT_WORDS_IN_BLOCK, DECREMENT_COUNT, DECREMENT_CURSOR, FREE_BLOCK_COUNT, FREE_BLOCK_CURSOR, GRANULES_IN_BLOCK, GRANULES_IN_LINE, LEAST_REGISTERS, LINES_IN_BLOCK, MOST_BLOCKS, MOST_BLOCKS_OF_SMALL, MOST_GRANULES, MOST_WORDS, PAUSE_WORD, REGISTERS, REMEMBERED_CURSOR, RUN_COUNT, RUN_CURSOR, STUCK, TRACING_WORD, WORDS_IN_BLOCK, WORDS_IN_LINE, WORLD_LINES, WORLD_REFS}
 
--- a block of 32 KB has 128 lines of 256 bytes; a granule has two words of 8 bytes; a thread has a register for each byte
+-- a block of 32 KB has 128 lines of 256 bytes; a granule has two words of 8 bytes; a thread has a register for each byte, and may name 16 at least
 pub record HasGeometry : Type 0 where
   pub block_words : WORDS_IN_BLOCK ≡ 4096
   pub block_granules : GRANULES_IN_BLOCK ≡ 2048
@@ -10,6 +10,7 @@ pub record HasGeometry : Type 0 where
   pub line_words : WORDS_IN_LINE ≡ 32
   pub line_granules : GRANULES_IN_LINE ≡ 16
   pub registers : REGISTERS ≡ 256
+  pub least_registers : LEAST_REGISTERS ≡ 16
   pub world_lines : WORLD_LINES ≡ 3
   pub world_refs : WORLD_REFS ≡ 64
 

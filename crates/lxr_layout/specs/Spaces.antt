@@ -1,6 +1,6 @@
 -- How large a space is, and where its regions begin.
 use Rattle.std.specs.Prelude.{ℕ, ◌+◌, ◌*◌, ◌/◌, ◌≤◌, List, [], ◌∷◌, take, sum}
-use Rattle.lxr_layout.specs.declared.TheConstants.{COUNT_WORDS_IN_BLOCK, MOST_BLOCKS, REGISTERS, WORDS_IN_BLOCK}
+use Rattle.lxr_layout.specs.declared.TheConstants.{COUNT_WORDS_IN_BLOCK, LEAST_REGISTERS, MOST_BLOCKS, REGISTERS, WORDS_IN_BLOCK}
 use Rattle.lxr_layout.specs.declared.limits.Limits.{Limits}
 use Rattle.lxr_layout.specs.declared.limits.Regions.{Regions}
 
@@ -11,7 +11,7 @@ pub record AreLimits (l : Limits) : Type 0 where
   pub threads : (1 ≤ l.threads) × (l.threads ≤ 255)
   pub log : (1 ≤ l.log) × (l.log ≤ 65536)
   pub remember : (1 ≤ l.remember) × (l.remember ≤ 1048576)
-  pub registers : (16 ≤ l.registers) × (l.registers ≤ REGISTERS)
+  pub registers : (LEAST_REGISTERS ≤ l.registers) × (l.registers ≤ REGISTERS)
   pub evacuate : l.evacuate ≤ l.blocks / 8
 
 -- ---- the number of each region, in their order

@@ -24,6 +24,9 @@ pub use spaces::regions;
 /// The registers of a thread, whose names are bytes. How many of them a thread of a heap may name is one of its limits.
 pub const REGISTERS: usize = 256;
 
+/// The fewest registers that a thread of a heap may name.
+pub const LEAST_REGISTERS: u16 = 16;
+
 /// The words of a block of 32 KB.
 pub const WORDS_IN_BLOCK: u32 = 4096;
 

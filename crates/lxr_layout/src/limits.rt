@@ -11,7 +11,7 @@ pub struct Limits {
     pub log: u32,
     /// Entries of the remembered set, 1 to 1,048,576.
     pub remember: u32,
-    /// Registers that a thread may name, 16 to `REGISTERS`.
+    /// Registers that a thread may name, `LEAST_REGISTERS` to `REGISTERS`.
     pub registers: u16,
     /// The most blocks that are chosen for evacuation when a trace begins, 0 to an eighth of all.
     pub evacuate: u32,

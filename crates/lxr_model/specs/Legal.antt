@@ -9,7 +9,7 @@ use Rattle.lxr_graph.specs.declared.Reply.TheVariants as reply
 use Rattle.lxr_graph.specs.declared.report.Kind.TheVariants as kind
 use Rattle.lxr_graph.specs.Names.{without, union}
 use Rattle.lxr_graph.specs.State.{world_name}
-use Rattle.lxr_graph.specs.Step.{IsWellFormed, IsReply}
+use Rattle.lxr_graph.specs.Step.{IsFormedFor, IsReply}
 use Rattle.lxr_graph.specs.History.{PauseReport, Item, Call, Pause, Renew}
 use Rattle.lxr_model.specs.Terms.{Terms}
 use Rattle.lxr_model.specs.Moments.{moment, state_at}
@@ -23,10 +23,10 @@ abbrev pub Replies : Terms → List Item → ℕ → Op → Reply → Type 0
 Replies terms h t (op.New dest shape) reply.Full = MayBeFull terms h shape
 Replies terms h t o r = IsReply (state_at terms h) t o r
 
--- a call after h: of a thread that there is, with registers and a shape that there are
+-- a call after h: of a thread that there is, whose operation names registers that it has, and a shape that there is
 pub record IsCall (terms : Terms) (h : List Item) (t : ℕ) (o : Op) (r : Reply) : Type 0 where
   pub thread : (1 ≤ t) × (t ≤ terms.threads)
-  pub operation : IsWellFormed o
+  pub operation : IsFormedFor terms.registers o
   pub reply : Replies terms h t o r
 
 -- a pause after h

@@ -1,10 +1,12 @@
 -- The numbers that a run is given.
 use Rattle.std.specs.Prelude.{ℕ, Bool}
 
--- threads and blocks, and how many of these are chosen for evacuation at most; calls of a thread between two pauses; entries of a log; every
--- how many pauses a trace begins, and within how many it ends; and whether names are ever renewed
+-- threads, and how many registers the operations of each may name, the first ones; blocks, and how many of these are chosen for evacuation at
+-- most; calls of a thread between two pauses; entries of a log; every how many pauses a trace begins, and within how many it ends; and whether
+-- names are ever renewed
 pub record Terms : Type 0 where
   pub threads : ℕ
+  pub registers : ℕ
   pub blocks : ℕ
   pub evacuate : ℕ
   pub every : ℕ

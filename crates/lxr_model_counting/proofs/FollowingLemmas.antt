@@ -59,7 +59,7 @@ unreclaimed_object m follows n h = let a = follows.objects n h in ap is_some a.3
 -- ---- the opening
 
 opening_good : (threads : ℕ) → GoodAt threads (opening_moment threads)
-opening_good threads = good_history (record { threads = threads; blocks = 0; evacuate = 0; every = 0; log = 0; trace = 0; within = 0; renews = false }) [] tt
+opening_good threads = good_history (record { threads = threads; registers = 0; blocks = 0; evacuate = 0; every = 0; log = 0; trace = 0; within = 0; renews = false }) [] tt
 
 pub opening_follows : OpeningFollows
 opening_follows threads =

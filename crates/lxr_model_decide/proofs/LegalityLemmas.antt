@@ -13,9 +13,9 @@ use Rattle.lxr_graph.specs.declared.report.Kind.{Kind}
 use Rattle.lxr_graph.specs.declared.report.Kind.TheVariants as kind
 use Rattle.lxr_graph.specs.Names.{has, without, union, IsSetOf}
 use Rattle.lxr_graph.specs.State.{Graph, State, world_name}
-use Rattle.lxr_graph.specs.Forms.{is_well_formed}
+use Rattle.lxr_graph.specs.Forms.{is_formed_for}
 use Rattle.lxr_graph.specs.History.{PauseReport, Item, Call, Pause, Renew}
-use Rattle.lxr_graph.proofs.FormLemmas.{well_formed}
+use Rattle.lxr_graph.proofs.FormLemmas.{formed_for}
 use Rattle.lxr_graph.proofs.NameSets.{not_both, has_one, in_order-without, without_parts, in_without}
 use Rattle.lxr_model.specs.Reachable.{Reachable}
 use Rattle.lxr_model.specs.Terms.{Terms}
@@ -187,12 +187,12 @@ same_rest e = cc
 pub follow_right : (terms : Terms) (h : List Item) (x : Item) → IsTrue (may_follow terms h (moment terms.threads h) x)
     → item_again (moment terms.threads h) x ≡ x → MayFollow terms h x
 follow_right terms h (Call t o r) e same =
-    let a = and_parts (nat_le 1 t && nat_le t terms.threads) (is_well_formed o && may_reply terms h (moment terms.threads h) o r) e in
+    let a = and_parts (nat_le 1 t && nat_le t terms.threads) (is_formed_for terms.registers o && may_reply terms h (moment terms.threads h) o r) e in
     let b = and_parts (nat_le 1 t) (nat_le t terms.threads) a.0 in
-    let c = and_parts (is_well_formed o) (may_reply terms h (moment terms.threads h) o r) a.1 in
+    let c = and_parts (is_formed_for terms.registers o) (may_reply terms h (moment terms.threads h) o r) a.1 in
     record {
       thread = (le_from_test 1 t b.0, le_from_test t terms.threads b.1);
-      operation = (well_formed o).0 c.0;
+      operation = (formed_for terms.registers o).0 c.0;
       reply = replies_right terms h t o r c.1 (same_reply same);
     }
 follow_right terms h (Renew ns) e same = absurd (cc)

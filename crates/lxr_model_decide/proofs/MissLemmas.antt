@@ -1,5 +1,5 @@
--- Why each near miss is none: what is dead isn't reachable, a moment gives one report of a kind, and a collecting pause
--- needs somebody who asks or waits. Behind the last end one pause stands at most.
+-- Why each near miss is none: what is dead isn't reachable, a moment gives one report of a kind, a collecting pause needs
+-- somebody who asks or waits, and an operation names the first registers alone. Behind the last end one pause stands at most.
 use Rattle.std.proofs.Common.{◌≡◌, ℕ, ◌⊎◌, inl, inr, refl, ap, arith, false, List, [], ◌∷◌, IsTrue}
 use Rattle.std.specs.Prelude.{reverse}
 use Rattle.lxr_layout.specs.declared.Name.{Name}
@@ -15,7 +15,7 @@ use Rattle.lxr_model_decide.proofs.PartLemmas.{reports_right}
 use Rattle.lxr_model_decide.proofs.LegalityLemmas.{legal_by_tests, legal_so_far}
 use Rattle.lxr_model_decide.proofs.BelongingLemmas.{belongs_by_tests}
 use Rattle.lxr_model_decide.specs.ExampleWords.{usual_terms, made}
-use Rattle.lxr_model_decide.specs.NearMisses.{kept_run, kept_is_dead, ReachableIsNotDead, cycle_left, cycle_is_dead, CycleIsNotDead, paused, UnaskedCollectIsRefused, ended_run, one_more, OnePauseBehindTheLastEnd}
+use Rattle.lxr_model_decide.specs.NearMisses.{kept_run, kept_is_dead, ReachableIsNotDead, cycle_left, cycle_is_dead, CycleIsNotDead, paused, UnaskedCollectIsRefused, made_one, moves_beyond, RegisterBeyondIsRefused, ended_run, one_more, OnePauseBehindTheLastEnd}
 
 pub reachable_is_not_dead : ReachableIsNotDead
 reachable_is_not_dead = record {
@@ -43,6 +43,12 @@ nobody_asks (inr e) = e
 
 pub unasked_collect_is_refused : UnaskedCollectIsRefused
 unasked_collect_is_refused = record { before = legal_so_far usual_terms (reverse paused) refl refl; refused = λ legal. nobody_asks legal.2.stands }
+
+pub register_beyond_is_refused : RegisterBeyondIsRefused
+register_beyond_is_refused = (
+  record { before = legal_so_far usual_terms (reverse made_one) refl refl; refused = λ legal. let few = legal.2.operation.0 in absurd (omega (arith, few)) },
+  legal_so_far (record usual_terms { registers = 21 }) (moves_beyond ∷ reverse made_one) refl refl,
+)
 
 -- the history up to the pause is a whole one, and so one so far
 pub one_pause_behind_the_last_end : OnePauseBehindTheLastEnd

@@ -14,9 +14,9 @@ use Rattle.lxr_graph.specs.declared.report.Kind.{Kind}
 use Rattle.lxr_graph.specs.declared.report.Kind.TheVariants as kind
 use Rattle.lxr_graph.specs.Names.{without, union}
 use Rattle.lxr_graph.specs.State.{Graph, world_name}
-use Rattle.lxr_graph.specs.Forms.{is_well_formed}
+use Rattle.lxr_graph.specs.Forms.{is_formed_for}
 use Rattle.lxr_graph.specs.History.{PauseReport, Item, Call, Pause, Renew}
-use Rattle.lxr_graph.proofs.FormLemmas.{well_formed}
+use Rattle.lxr_graph.proofs.FormLemmas.{formed_for}
 use Rattle.lxr_graph.proofs.NameSets.{not_both}
 use Rattle.lxr_model.specs.Terms.{Terms}
 use Rattle.lxr_model.specs.Moments.{Trace, Moment, moment}
@@ -160,8 +160,8 @@ follow_test terms h (Call t o r) never e =
     let m = moment terms.threads h in
     let a = replies_test terms h t o r e.reply in
     let low = and_from (nat_le 1 t) (nat_le t terms.threads) (test_from_le 1 t e.thread.0) (test_from_le t terms.threads e.thread.1) in
-    let formed = and_from (is_well_formed o) (may_reply terms h m o r) ((well_formed o).1 e.operation) a.0 in
-    (and_from (nat_le 1 t && nat_le t terms.threads) (is_well_formed o && may_reply terms h m o r) low formed, ap (Call t o) a.1)
+    let formed = and_from (is_formed_for terms.registers o) (may_reply terms h m o r) ((formed_for terms.registers o).1 e.operation) a.0 in
+    (and_from (nat_le 1 t && nat_le t terms.threads) (is_formed_for terms.registers o && may_reply terms h m o r) low formed, ap (Call t o) a.1)
 follow_test terms h (Renew ns) never e = absurd (let both : true ≡ false = sym e.allowed ∙ never in cc)
 follow_test terms h (Pause report) never e =
     let m = moment terms.threads h in

@@ -1,5 +1,6 @@
 -- Short words for histories, most of them of one thread.
 use Rattle.std.specs.Prelude.{ℕ, false, Option, Some, None, List, [], reverse}
+use Rattle.lxr_layout.specs.declared.TheConstants.{LEAST_REGISTERS}
 use Rattle.lxr_layout.specs.declared.Name.{Name}
 use Rattle.lxr_graph.specs.declared.Op.{Op}
 use Rattle.lxr_graph.specs.declared.Op.TheVariants as op
@@ -15,7 +16,7 @@ use Rattle.lxr_model.specs.Belongs.{Script, Belongs}
 
 -- one thread, and the numbers that a run has unless told otherwise
 abbrev pub usual_terms : Terms
-usual_terms = record { threads = 1; blocks = 64; evacuate = 8; every = 1024; log = 1024; trace = 8; within = 4; renews = false }
+usual_terms = record { threads = 1; registers = LEAST_REGISTERS; blocks = 64; evacuate = 8; every = 1024; log = 1024; trace = 8; within = 4; renews = false }
 
 -- the name of thread 1's object of this serial
 abbrev pub made : ℕ → Name

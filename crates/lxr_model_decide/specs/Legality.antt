@@ -12,7 +12,7 @@ use Rattle.lxr_graph.specs.declared.report.Kind.{Kind}
 use Rattle.lxr_graph.specs.declared.report.Kind.TheVariants as kind
 use Rattle.lxr_graph.specs.Names.{without, union}
 use Rattle.lxr_graph.specs.State.{Graph, world_name}
-use Rattle.lxr_graph.specs.Forms.{is_well_formed}
+use Rattle.lxr_graph.specs.Forms.{is_formed_for}
 use Rattle.lxr_graph.specs.Step.{step}
 use Rattle.lxr_graph.specs.History.{PauseReport, Item, Call, Pause, Renew}
 use Rattle.lxr_model.specs.Terms.{Terms}
@@ -118,7 +118,7 @@ owes_no_call terms _ = true
 
 -- an item may come after h, which leads to m, whatever it replies or reports
 abbrev pub may_follow : Terms → List Item → Moment → Item → Bool
-may_follow terms h m (Call t o r) = (nat_le 1 t && nat_le t terms.threads) && (is_well_formed o && may_reply terms h m o r)
+may_follow terms h m (Call t o r) = (nat_le 1 t && nat_le t terms.threads) && (is_formed_for terms.registers o && may_reply terms h m o r)
 may_follow terms h m (Pause report) = may_stand terms h m.trace report.number report.kind
 may_follow terms h m (Renew ns) = false
 

@@ -1,12 +1,14 @@
 -- Histories that miss to be legal, or to belong to their script, by their last item.
 use Rattle.std.specs.Prelude.{List, [], ◌∷◌, reverse}
 use Rattle.lxr_graph.specs.declared.Op.{Op}
+use Rattle.lxr_graph.specs.declared.Op.TheVariants as op
+use Rattle.lxr_graph.specs.declared.Reply.TheVariants as reply
 use Rattle.lxr_graph.specs.declared.report.Kind.TheVariants as kind
 use Rattle.lxr_graph.specs.History.{PauseReport, Item, Pause}
 use Rattle.lxr_model.specs.Terms.{Terms}
 use Rattle.lxr_model.specs.Legal.{IsLegalSoFar}
 use Rattle.lxr_model.specs.Belongs.{BelongsSoFar, IsHistorySoFar}
-use Rattle.lxr_model_decide.specs.ExampleWords.{usual_terms, made, makes, stores, clears, asks, ends, quiet, world_count, counted}
+use Rattle.lxr_model_decide.specs.ExampleWords.{usual_terms, made, does, makes, stores, clears, asks, ends, quiet, world_count, counted}
 
 -- these items, oldest first, are legal as far as they go under these terms, and with this one they aren't
 pub record IsNearMiss (terms : Terms) (items : List Item) (last : Item) : Type 0 where
@@ -58,6 +60,20 @@ collects_unasked = record (quiet 1 kind.Collect (world_count ∷ counted 1 1 ∷
 
 abbrev pub UnaskedCollectIsRefused : Type 0
 UnaskedCollectIsRefused = IsNearMiss usual_terms paused (Pause collects_unasked)
+
+-- ---- an operation names a register beyond those of its thread
+
+-- there is an object for it
+abbrev pub made_one : List Item
+made_one = makes 1 0 1 ∷ []
+
+-- it names register 20
+abbrev pub moves_beyond : Item
+moves_beyond = does (op.Move 20 1) reply.Moved
+
+-- where an operation may name 16 registers it is refused; where it may name 21 it isn't
+abbrev pub RegisterBeyondIsRefused : Type 0
+RegisterBeyondIsRefused = IsNearMiss usual_terms made_one moves_beyond × IsLegalSoFar (record usual_terms { registers = 21 }) (moves_beyond ∷ reverse made_one)
 
 -- ---- a second pause stands behind the last end
 

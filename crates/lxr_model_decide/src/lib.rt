@@ -19,7 +19,7 @@ mod swaps;
 pub use histories::{belonging, legality};
 pub use near_misses::{
     cycle_is_not_dead, one_pause_behind_the_last_end, reachable_is_not_dead,
-    unasked_collect_is_refused,
+    register_beyond_is_refused, unasked_collect_is_refused,
 };
 pub use remembered::remembered_are_summed;
 pub use renewals::{renewals_are_refused, renewed_goes_on};

@@ -8,13 +8,13 @@ use Rattle.lxr_layout.specs.declared.limits.Limits.{Limits}
 use Rattle.lxr_layout.specs.declared.runs.Run.{Run}
 use Rattle.lxr_layout.specs.Runs.{word_of_run}
 use Rattle.lxr_image.specs.declared.space.Space.{Space}
-use Rattle.lxr_image.specs.Tables.{Tables}
+use Rattle.lxr_image.specs.Tables.{Tables, written}
 use Rattle.lxr_image.specs.Spaces.{IsSpace, tables_of}
 use Rattle.lxr_blocks.specs.declared.states.BlockState.{BlockState}
 use Rattle.lxr_blocks.specs.declared.states.BlockState.TheVariants.{Free}
 use Rattle.lxr_blocks.specs.States.{IsOpenRun, state_in}
 use Rattle.lxr_blocks.specs.Handing.{first_line}
-use Rattle.lxr_blocks.specs.Listing.{TurnsWithRest, block_frees, block_runs, listed_frees, listed_runs, lists_runs, with_lists, written}
+use Rattle.lxr_blocks.specs.Listing.{TurnsWithRest, block_frees, block_runs, listed_frees, listed_runs, lists_runs, with_lists}
 use Rattle.lxr_invariant.specs.Lines.{HasStates}
 use Rattle.lxr_invariant.specs.Listed.{AreApartRuns, IsListed, ListsBlock, ListsRun, whole_block}
 use Rattle.lxr_placing.proofs.OrderLemmas.{AreInOrder, IsAt, all_in_order, all_of, item_is, item_of, item_read, items_apart, joined_few, joined_is}

@@ -12,9 +12,10 @@ use Rattle.lxr_layout.specs.Spaces.{AreLimits}
 use Rattle.lxr_image.specs.declared.space.Space.{Space}
 use Rattle.lxr_image.specs.Opened.{IsOpened, first_run, opened_tables}
 use Rattle.lxr_image.specs.Spaces.{IsSpace, tables_of}
-use Rattle.lxr_image.specs.Tables.{Tables, changed}
-use Rattle.lxr_blocks.specs.Lines.{are_zero, begins_run, free_from, free_in, runs_below}
-use Rattle.lxr_blocks.specs.Listing.{block_frees, block_runs, joined, listed_frees, listed_runs, lists_block, lists_runs, run_words, with_lists, written}
+use Rattle.lxr_image.specs.Runs.{begins_run, free_from, runs_below}
+use Rattle.lxr_image.specs.Tables.{Tables, changed, written}
+use Rattle.lxr_blocks.specs.Lines.{are_zero, free_in}
+use Rattle.lxr_blocks.specs.Listing.{block_frees, block_runs, joined, listed_frees, listed_runs, lists_block, lists_runs, run_words, with_lists}
 use Rattle.lxr_invariant.proofs.OpeningLemmas.{free_at}
 use Rattle.lxr_placing.specs.Listing.{ListsAll}
 use Rattle.lxr_placing.proofs.ListedLemmas.{written_read}

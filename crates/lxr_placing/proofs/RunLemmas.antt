@@ -6,14 +6,15 @@ use Rattle.std.specs.Prelude.{◌&&◌, not, ◌==◌, map, IsTrue, if◌then◌
 use Rattle.lxr_layout.specs.declared.TheConstants.{LINES_IN_BLOCK}
 use Rattle.lxr_layout.specs.declared.runs.Run.{Run}
 use Rattle.lxr_layout.specs.Runs.{word_of_run}
+use Rattle.lxr_image.specs.Runs.{begins_run, free_from, runs_below}
 use Rattle.lxr_image.specs.Tables.{Tables}
 use Rattle.lxr_blocks.specs.declared.states.BlockState.{BlockState}
 use Rattle.lxr_blocks.specs.declared.states.BlockState.TheVariants.{Free, Partly, Whole, Chosen, World}
-use Rattle.lxr_blocks.specs.Lines.{begins_run, free_count, free_from, free_in, runs_below}
+use Rattle.lxr_blocks.specs.Lines.{free_count, free_in}
 use Rattle.lxr_blocks.specs.States.{IsOpenRun, is_fixed, state_in}
 use Rattle.lxr_blocks.specs.Handing.{first_line}
 use Rattle.lxr_blocks.specs.Listing.{block_frees, block_runs, lists_block, lists_runs}
-use Rattle.lxr_blocks.proofs.ListingLemmas.{few_runs}
+use Rattle.lxr_image.proofs.RunLemmas.{few_runs}
 use Rattle.lxr_invariant.specs.Lines.{HasStates}
 use Rattle.lxr_invariant.specs.Listed.{whole_block}
 use Rattle.lxr_placing.proofs.OrderLemmas.{AreInOrder, order_append}

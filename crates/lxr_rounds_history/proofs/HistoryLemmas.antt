@@ -1,8 +1,10 @@
 -- How the history of a run grows: by the calls of an epoch, by the call of a `new` that waited, by a pause that has a
 -- cause, and by its end.
-use Rattle.std.proofs.Common.{◌≡◌, ℕ, suc, ◌<◌, ◌≤◌, refl, sym, ap, subst, ◌∙◌, inr, arith, Bool, true, false, List, [], ◌∷◌, ◌++◌, length, drop, nat_eq}
-use Rattle.std.specs.Prelude.{Some, slice_get, if◌then◌else◌}
-use Rattle.std.proofs.lemmas.List.{take-append-drop}
+use Rattle.std.proofs.Common.{◌≡◌, ℕ, suc, ◌-◌, ◌<◌, ◌≤◌, refl, sym, ap, subst, ◌∙◌, inr, arith, Bool, true, false, List, [], ◌∷◌, ◌++◌, length, drop, nat_eq}
+use Rattle.std.specs.Prelude.{All, Some, slice_get, slice_index_or, if◌then◌else◌}
+use Rattle.std.proofs.Math.Seq.{take-append_seam}
+use Rattle.std.proofs.lemmas.List.{get_or_push, length_push, take-append-drop}
+use Rattle.std.proofs.lemmas.List.Elements.{All-push, All-take}
 use Rattle.std.proofs.lemmas.Bool.{eq-eqb}
 use Rattle.std.proofs.lemmas.Bool.Decides.{nat_tests}
 use Rattle.lxr_graph.specs.declared.Op.{Op}
@@ -10,7 +12,7 @@ use Rattle.lxr_graph.specs.declared.Op.TheVariants as op
 use Rattle.lxr_graph.specs.declared.Reply.{Reply}
 use Rattle.lxr_graph.specs.declared.Reply.TheVariants as reply
 use Rattle.lxr_graph.specs.History.{Item, Call, Pause, Renew, PauseReport, calls_of}
-use Rattle.lxr_graph.specs.Step.{IsReply, IsWellFormed}
+use Rattle.lxr_graph.specs.Step.{IsFormedFor, IsReply}
 use Rattle.lxr_model.specs.Moments.{moment}
 use Rattle.lxr_model.specs.Kinds.{ends}
 use Rattle.lxr_model.specs.Legal.{IsLegalSoFar, IsPause, KeepsPromise, OwesNoCall, Replies}
@@ -20,7 +22,7 @@ use Rattle.lxr_model_laws.specs.ScriptLaws.{GoesOn}
 use Rattle.lxr_model_laws.proofs.ScriptLemmas.{as_many_go_on, causes_on}
 use Rattle.lxr_core_invariant.specs.EpochStates.{Extends, same, called}
 use Rattle.lxr_rounds_history.specs.Plan.{Plan}
-use Rattle.lxr_rounds_history.specs.Growing.{CallsBeginScript, HasEnded}
+use Rattle.lxr_rounds_history.specs.Growing.{CallsBeginScript, HasEnded, NamesFew}
 use Rattle.lxr_rounds_history.specs.Histories.{IsHistoryWith, plan_terms, script_terms_with}
 
 -- ---- promises
@@ -49,14 +51,48 @@ replies_in renews plan threads h t o r is = is
 pub since_call : (t : ℕ) (o : Op) (r : Reply) (h : List Item) → calls_since_pause t (Call t o r ∷ h) ≡ suc (calls_since_pause t h)
 since_call t o r h = ap (λ b. if b then suc (calls_since_pause t h) else calls_since_pause t h) (eq-eqb t t refl)
 
--- the calls of an epoch are legal
-pub legal_extends : (renews : Bool) (plan : Plan) (threads every : ℕ) (h k : List Item) → Extends threads every h k → IsLegalSoFar (plan_terms renews plan threads) h → OwesNoCall (plan_terms renews plan threads) h
-    → IsLegalSoFar (plan_terms renews plan threads) k
-legal_extends renews plan threads every h k (same) legal none = legal
-legal_extends renews plan threads every h k (called l t o r before is) legal none =
-    let was = legal_extends renews plan threads every h l before legal none in
+-- each call of a thread names few registers
+abbrev pub CallsNameFew : ℕ → ℕ → List Item → Type 0
+CallsNameFew registers threads h = (t : ℕ) → 1 ≤ t → t ≤ threads → All (IsFormedFor registers) (calls_of t h)
+
+-- so it is where each is one of its operations, or its end
+calls_name_few : (registers : ℕ) (script : Script) (h : List Item) → NamesFew registers script → CallsBeginScript script h → CallsNameFew registers (length script) h
+calls_name_few registers script h few begun t low high =
+    let (n, calls) = begun t low high in
+    let asked : All (IsFormedFor registers) (operations_of script t) = All-push (IsFormedFor registers) (slice_index_or script (t - 1) []) op.End (few (t - 1) [] (omega (arith, low, high))) tt in
+    subst (All (IsFormedFor registers)) (sym calls) (All-take (IsFormedFor registers) n (operations_of script t) asked)
+
+-- of a list with one more item, all but that one
+all_but_last : {X : Type 0} (P : X → Type 0) (xs : List X) (x : X) → All P (xs ++ x ∷ []) → All P xs
+all_but_last P xs x all = subst (All P) (take-append_seam xs (x ∷ [])) (All-take P (length xs) (xs ++ x ∷ []) all)
+
+-- and that one
+last_of_all : {X : Type 0} (P : X → Type 0) (xs : List X) (x : X) → All P (xs ++ x ∷ []) → P x
+last_of_all P xs x all = let one = length_push xs x in subst P (get_or_push xs x x (length xs) refl) (all (length xs) x (omega (arith, one)))
+
+-- it is so before the newest call
+before_call : (registers threads t : ℕ) (o : Op) (r : Reply) (h : List Item) → CallsNameFew registers threads (Call t o r ∷ h) → CallsNameFew registers threads h
+before_call registers threads t o r h few u low high = by (nat_eq u t) (few u low high)
+  where
+    by : (mine : Bool) → All (IsFormedFor registers) (if mine then calls_of u h ++ o ∷ [] else calls_of u h) → All (IsFormedFor registers) (calls_of u h)
+    by true all = all_but_last (IsFormedFor registers) (calls_of u h) o all
+    by false all = all
+
+-- and of that one
+newest_call : (registers threads t : ℕ) (o : Op) (r : Reply) (h : List Item) → (1 ≤ t) × (t ≤ threads) → CallsNameFew registers threads (Call t o r ∷ h) → IsFormedFor registers o
+newest_call registers threads t o r h thread few =
+    last_of_all (IsFormedFor registers) (calls_of t h) o
+    (subst (λ b. All (IsFormedFor registers) (if b then calls_of t h ++ o ∷ [] else calls_of t h)) (eq-eqb t t refl) (few t thread.0 thread.1))
+
+-- the calls of an epoch are legal where they name no more registers than the plan allows
+pub legal_extends : (renews : Bool) (plan : Plan) (threads every : ℕ) (h k : List Item) → Extends threads every h k → CallsNameFew plan.registers threads k → IsLegalSoFar (plan_terms renews plan threads) h
+    → OwesNoCall (plan_terms renews plan threads) h → IsLegalSoFar (plan_terms renews plan threads) k
+legal_extends renews plan threads every h k (same) few legal none = legal
+legal_extends renews plan threads every h k (called l t o r before is) few legal none =
+    let was = legal_extends renews plan threads every h l before (before_call plan.registers threads t o r l few) legal none in
     let owes = owes_extends (plan_terms renews plan threads) threads every h l before none in
-    (was, promise_kept (plan_terms renews plan threads) l (Call t o r) owes, record { thread = is.thread; operation = is.formed; reply = replies_in renews plan threads l t o r is.reply })
+    let formed = newest_call plan.registers threads t o r l is.thread few in
+    (was, promise_kept (plan_terms renews plan threads) l (Call t o r) owes, record { thread = is.thread; operation = formed; reply = replies_in renews plan threads l t o r is.reply })
 
 -- none stands where its thread waits for a pause that it asked for
 pub asked_extends : (threads every : ℕ) (h k : List Item) → Extends threads every h k → AskedPausesComeFirst h → AskedPausesComeFirst k
@@ -95,11 +131,11 @@ calls_begin renews plan script h begun = λ t low high.
 
 -- after an epoch it is a history so far of all that was asked by then
 pub history_extends : (renews : Bool) (plan : Plan) (script script' : Script) (h k : List Item) → IsHistorySoFar (script_terms_with renews plan script) script h → OwesNoCall (script_terms_with renews plan script) h
-    → GoesOn script script' → Extends (length script) plan.every h k → CallsBeginScript script' k → IsHistorySoFar (script_terms_with renews plan script') script' k
-history_extends renews plan script script' h k (legal, belongs) none on extends begun =
+    → GoesOn script script' → NamesFew plan.registers script' → Extends (length script) plan.every h k → CallsBeginScript script' k → IsHistorySoFar (script_terms_with renews plan script') script' k
+history_extends renews plan script script' h k (legal, belongs) none on few extends begun =
     let many = as_many_go_on script script' on in
     subst (λ n. IsHistorySoFar (plan_terms renews plan n) script' k) (sym many) (
-      legal_extends renews plan (length script) plan.every h k extends legal none,
+      legal_extends renews plan (length script) plan.every h k extends (subst (λ n. CallsNameFew plan.registers n k) many (calls_name_few plan.registers script' k few begun)) legal none,
       record {
         calls = subst (λ n. CallsBeginOperations (plan_terms renews plan n) script' k) many (calls_begin renews plan script' k begun);
         asked = asked_extends (length script) plan.every h k extends belongs.asked;
@@ -114,7 +150,7 @@ history_extends renews plan script script' h k (legal, belongs) none on extends 
 -- what is asked of a call that comes next
 pub record MayBeCalled (renews : Bool) (plan : Plan) (script : Script) (h : List Item) (t : ℕ) (o : Op) (r : Reply) : Type 0 where
   pub thread : (1 ≤ t) × (t ≤ length script)
-  pub formed : IsWellFormed o
+  pub formed : IsFormedFor plan.registers o
   pub replies : Replies (script_terms_with renews plan script) h t o r
   pub promise : KeepsPromise (script_terms_with renews plan script) h (Call t o r)
   pub next : next_operation script t h ≡ Some o

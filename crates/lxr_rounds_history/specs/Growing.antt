@@ -1,6 +1,7 @@
 -- How the history of a run grows, and when it is whole. Each law is the contract of a function with an empty body.
-use Rattle.std.specs.Prelude.{◌≡◌, ℕ, ◌≤◌, Bool, List, ◌∷◌, length, take}
+use Rattle.std.specs.Prelude.{◌≡◌, ℕ, ◌≤◌, All, Bool, List, ◌∷◌, length, take}
 use Rattle.lxr_graph.specs.History.{Item, Pause, PauseReport, calls_of}
+use Rattle.lxr_graph.specs.Step.{IsFormedFor}
 use Rattle.lxr_model.specs.Belongs.{HasCause, IsHistorySoFar, LastPauseWasEarly, Script, operations_of}
 use Rattle.lxr_model.specs.Kinds.{ends}
 use Rattle.lxr_model.specs.Legal.{IsPause, OwesNoCall}
@@ -13,11 +14,16 @@ use Rattle.lxr_rounds_history.specs.Histories.{IsHistoryWith, script_terms_with}
 abbrev pub CallsBeginScript : Script → List Item → Type 0
 CallsBeginScript script h = (t : ℕ) → 1 ≤ t → t ≤ length script → (n : ℕ) × (calls_of t h ≡ take n (operations_of script t))
 
+-- threads are asked for operations alone that name the first so many registers
+abbrev pub NamesFew : ℕ → Script → Type 0
+NamesFew registers script = All (All (IsFormedFor registers)) script
+
 -- The calls of an epoch lead from a history so far to one, where no pause stands at its end for a `new` that is still to come. Threads may be
--- asked for more while it runs: the history before is one of what was asked by then, and the one behind it of all that was asked.
+-- asked for more while it runs: the history before is one of what was asked by then, and the one behind it of all that was asked, which names no
+-- more registers than the plan allows.
 abbrev pub EpochsKeepHistories : Type 0
 EpochsKeepHistories = (renews : Bool) (plan : Plan) (script script' : Script) (h k : List Item) → IsHistorySoFar (script_terms_with renews plan script) script h → OwesNoCall (script_terms_with renews plan script) h
-    → GoesOn script script' → Extends (length script) plan.every h k → CallsBeginScript script' k
+    → GoesOn script script' → NamesFew plan.registers script' → Extends (length script) plan.every h k → CallsBeginScript script' k
     → IsHistorySoFar (script_terms_with renews plan script') script' k
 
 -- so does a pause that has a cause and is of a kind that may stand there, where at the last one not all threads had ended

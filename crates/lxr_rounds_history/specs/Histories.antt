@@ -10,6 +10,7 @@ use Rattle.lxr_rounds_history.specs.Plan.{Plan}
 abbrev pub plan_terms : Bool → Plan → ℕ → Terms
 plan_terms renews plan threads = record {
   threads = threads;
+  registers = plan.registers;
   blocks = plan.blocks;
   evacuate = plan.evacuate;
   every = plan.every;

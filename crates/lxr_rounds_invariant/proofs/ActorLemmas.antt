@@ -4,13 +4,15 @@ use Rattle.std.specs.Prelude.{Bool, true, false, Some, if◌then◌else◌, nat_
 use Rattle.std.specs.Option.{option_map}
 use Rattle.std.specs.List.{All, count_by}
 use Rattle.std.proofs.lemmas.Bool.Decides.{nat_tests}
-use Rattle.std.proofs.lemmas.List.{length_push, take_all}
+use Rattle.std.proofs.lemmas.List.{length-map, length_push, take_all}
 use Rattle.std.proofs.lemmas.List.Elements.{All-weaker}
 use Rattle.std.proofs.lemmas.Option.{get_or_from_slice_get, slice_get-map, slice_get_within}
+use Rattle.lxr_layout.specs.declared.limits.Limits.{Limits}
 use Rattle.lxr_alloc.specs.declared.TheConstants.{MOST_OPERATIONS}
 use Rattle.lxr_graph.specs.declared.Op.TheVariants as op
 use Rattle.lxr_graph.specs.declared.Reply.{Reply}
 use Rattle.lxr_graph.specs.History.{Item, calls_of, replies_of}
+use Rattle.lxr_graph.specs.Step.{IsFormedFor}
 use Rattle.lxr_model.specs.Belongs.{Script, operations_of}
 use Rattle.lxr_model.specs.Kinds.{ends}
 use Rattle.lxr_model.specs.Legal.{IsLegalSoFar}
@@ -20,9 +22,10 @@ use Rattle.lxr_mutator.specs.Mutators.{IsMutator, IsOperation, IsThrough}
 use Rattle.lxr_mutator.specs.Naming.{blank}
 use Rattle.lxr_mutator.proofs.NamingLemmas.{told_count, told_length}
 use Rattle.lxr_core_invariant.specs.ThreadStates.{all_of, is_end}
+use Rattle.lxr_core_sim_mutator.specs.Showing.{IsMutatorOf}
 use Rattle.lxr_core.specs.Actors.{script_of}
 use Rattle.lxr_core.specs.Resting.{RestsAfter}
-use Rattle.lxr_rounds_history.specs.Growing.{CallsBeginScript}
+use Rattle.lxr_rounds_history.specs.Growing.{CallsBeginScript, NamesFew}
 use Rattle.lxr_rounds_history.proofs.ThreadSums.{Weight, counted_by, counted_in, counted_of, calls_counted, ending, ends_all, ends_counted, ends_within, legal_threads, one, replied, replies_counted, sum_of_threads, thread_ends_counted}
 use Rattle.lxr_rounds_invariant.specs.LoopInvariant.{HasMore, HaveMutators, HaveEnded, Task, done_of, left_of, task_limits, terms_of, threads_of}
 
@@ -61,6 +64,21 @@ has_begun task h mutators have = λ t low high.
     let rests : RestsAfter (task_limits task) task.plan.every h t a = subst (λ n. RestsAfter (task_limits task) task.plan.every h n a) number (have.rest.each (t - 1) a at) in
     let operations : operations_of task.script t ≡ all_of a.operations = subst (λ n. operations_of task.script n ≡ all_of a.operations) number (operations_at task.script mutators (t - 1) a have.script at) in
     (length a.replies.items, rests.calls ∙ ap (take (length a.replies.items)) (sym operations))
+
+-- what mutators of a space are asked for names no more registers than its limits say
+pub asked_few : (l : Limits) (mutators : List Mutating) → ((i : ℕ) (m : Mutating) → slice_get mutators i ≡ Some m → IsMutatorOf l m) → NamesFew l.registers (script_of mutators)
+asked_few l mutators each = λ i d within.
+    let many = length-map mutators (λ (m : Mutating). m.operations) in
+    let (m, at) = found mutators i (omega (arith, many, within)) in
+    let is = each i m at in
+    let few : All (IsFormedFor l.registers) m.operations =
+    All-weaker (IsOperation m.width) (IsFormedFor l.registers) (λ o operation. subst (λ n. IsFormedFor n o) is.width operation.0) m.operations is.sound.setup.operations in
+    let here : slice_get (script_of mutators) i ≡ Some m.operations = slice_get-map (λ (m : Mutating). m.operations) mutators i ∙ ap (option_map (λ (m : Mutating). m.operations)) at in
+    subst (All (IsFormedFor l.registers)) (sym (get_or_from_slice_get (script_of mutators) i m.operations d here)) few
+
+-- so it is of those that rest
+pub names_few : (task : Task) (h : List Item) (mutators : List Mutating) → HaveMutators task h mutators → NamesFew task.plan.registers task.script
+names_few task h mutators have = subst (NamesFew task.plan.registers) have.script (asked_few (task_limits task) mutators (λ i m at. (have.rest.each i m at).mutator))
 
 -- ---- sums over mutators
 

@@ -45,7 +45,7 @@ use Rattle.lxr_rounds_history.proofs.TallyLemmas.{has_numbers, loads_are, news_a
 use Rattle.lxr_rounds_history.proofs.ThreadSums.{counted_in, one}
 use Rattle.lxr_rounds_invariant.specs.LoopInvariant.{HasCome, HasEvacuatedFew, HasRunEpoch, HaveActors, HaveMutators, IsBetweenEpochs, SomeWait, Task, done_of, task_limits, terms_of, threads_of}
 use Rattle.lxr_rounds_invariant.specs.Laws.{EpochsRun, HasClosed, asked_for, beginning_of}
-use Rattle.lxr_rounds_invariant.proofs.ActorLemmas.{calls_are_done, ends_are_all, ends_are_fewer, has_begun, kind_is}
+use Rattle.lxr_rounds_invariant.proofs.ActorLemmas.{calls_are_done, ends_are_all, ends_are_fewer, has_begun, kind_is, names_few}
 use Rattle.lxr_rounds_invariant.proofs.EvacuatedLemmas.{evacuated_still}
 use Rattle.lxr_rounds_invariant.proofs.KindLemmas.{unasked_uncalled}
 
@@ -205,7 +205,7 @@ module _ (task : Task) (script : Script) (space mid after : Space) (seen : Optio
 
   -- the history is one so far of that
   history : IsHistorySoFar (terms_of asked) script execution.history
-  history = history_extends task.renews task.plan task.script script h execution.history amid.come.history amid.owes_none on
+  history = history_extends task.renews task.plan task.script script h execution.history amid.come.history amid.owes_none on (names_few asked execution.history (mutators_in actors) have.mutators)
       (subst (λ n. Extends n task.plan.every h execution.history) many extends) (has_begun asked execution.history (mutators_in actors) have.mutators)
 
   same_limits : after.limits ≡ space.limits

@@ -6,7 +6,6 @@ use Rattle.std.proofs.lemmas.List.{length-take-le, length_push, take_more}
 use Rattle.std.proofs.lemmas.Bool.{eq-eqb}
 use Rattle.std.proofs.lemmas.Bool.Decides.{nat_tests}
 use Rattle.std.proofs.lemmas.Option.{get_or_from_slice_get, slice_get_within}
-use Rattle.lxr_layout.specs.declared.TheConstants.{REGISTERS}
 use Rattle.lxr_layout.specs.declared.Name.{Name}
 use Rattle.lxr_layout.specs.declared.Place.{Place}
 use Rattle.lxr_layout.specs.declared.Shape.{Shape}
@@ -18,8 +17,7 @@ use Rattle.lxr_graph.specs.declared.Reply.TheVariants as reply
 use Rattle.lxr_graph.specs.History.{Item, Call, Pause, PauseReport, calls_of, replies_of}
 use Rattle.lxr_graph.specs.Names.{has, same_name}
 use Rattle.lxr_graph.specs.State.{Object, next_name, object_at}
-use Rattle.lxr_graph.specs.Step.{IsReply, IsWellFormed}
-use Rattle.lxr_graph.proofs.FormLemmas.{formed_more}
+use Rattle.lxr_graph.specs.Step.{IsFormedFor, IsReply}
 use Rattle.lxr_graph.proofs.NameSets.{same_names}
 use Rattle.lxr_graph.proofs.RowLemmas.{next_none}
 use Rattle.lxr_image.specs.declared.space.Space.{Space}
@@ -37,14 +35,14 @@ use Rattle.lxr_serve.proofs.MutatorLemmas.{answered_mutator, with_registers}
 use Rattle.lxr_serve.proofs.SpaceLemmas.{IsNewServed}
 use Rattle.lxr_mutator.specs.declared.phases.MutEnd.TheVariants as ends
 use Rattle.lxr_mutator.specs.Mutating.{IsWaiting, Mutating, is_new, next_name as next_made, op_now}
-use Rattle.lxr_mutator.specs.Mutators.{AreRegisters, IsMutator, answered}
+use Rattle.lxr_mutator.specs.Mutators.{AreRegisters, answered}
 use Rattle.lxr_mutator.specs.Naming.{all_told_as, blank, told_as}
 use Rattle.lxr_mutator.proofs.NamingLemmas.{told_more, told_news, told_whole}
 use Rattle.lxr_mutator.proofs.NowLemmas.{formed_now}
 use Rattle.lxr_core_invariant.specs.ThreadStates.{all_of}
 use Rattle.lxr_core_invariant.specs.EpochStates.{objects_before}
 use Rattle.lxr_core_invariant.proofs.ObjectLemmas.{legal_counts}
-use Rattle.lxr_core_sim_mutator.specs.Showing.{IsNew}
+use Rattle.lxr_core_sim_mutator.specs.Showing.{IsMutatorOf, IsNew}
 use Rattle.lxr_core_sim_mutator.proofs.NamingLemmas.{named_after}
 use Rattle.lxr_core.specs.Resting.{RestsAfter}
 use Rattle.lxr_core.proofs.ScriptLemmas.{op_is_next}
@@ -57,9 +55,9 @@ use Rattle.lxr_rounds_history.proofs.TallyLemmas.{has_numbers}
 use Rattle.lxr_rounds_invariant.specs.LoopInvariant.{HasCome, IsCollectedSince, Task, task_limits, terms_of, threads_of}
 use Rattle.lxr_rounds_invariant.proofs.EvacuatedLemmas.{evacuated_still}
 
--- the operation whose turn it is names registers that there are
-well_formed_now : (m : Mutating) → IsMutator m → IsWellFormed (op_now m)
-well_formed_now m is = formed_more m.width REGISTERS (op_now m) is.setup.width.1 (formed_now m is)
+-- the operation whose turn it is names no more registers than the limits say
+few_named_now : (l : Limits) (m : Mutating) → IsMutatorOf l m → IsFormedFor l.registers (op_now m)
+few_named_now l m is = subst (λ n. IsFormedFor n (op_now m)) is.width (formed_now m is.sound)
 
 -- ---- a `new` whose turn has come
 
@@ -113,7 +111,7 @@ module _ (task : Task) (space : Space) (seen : Option (List Sight)) (t : ℕ) (m
   pub may_answer : (r : Reply) → Replies (terms_of task) h t (op_now m) r → MayBeCalled task.renews task.plan task.script h t (op_now m) r
   may_answer r replies = record {
     thread = may.thread;
-    formed = well_formed_now m may.rests.mutator.sound;
+    formed = few_named_now (task_limits task) m may.rests.mutator;
     replies = replies;
     promise = may.promise r;
     next = next_is;
@@ -214,7 +212,7 @@ pub full_cause : (task : Task) (space : Space) (seen : Option (List Sight)) (t :
     → MayServe task space seen t m collected served h g → op_now m ≡ op.New dest shape → IsFull space shape → HasCause (terms_of task) task.script h
 full_cause task space seen t m collected served h g dest shape may is full =
     let come = may.come in
-    let formed : IsWellFormed (op.New dest shape) = subst IsWellFormed is (well_formed_now m may.rests.mutator.sound) in
+    let formed : IsFormedFor task.plan.registers (op.New dest shape) = subst (IsFormedFor task.plan.registers) is (few_named_now (task_limits task) m may.rests.mutator) in
     room_cause task.renews task.plan task.script h space g t dest shape may.thread.0 may.thread.1 (next_is task space seen t m collected served h g may ∙ ap Some is) may.between come.stands.moment
     come.limits formed.1 full
 
@@ -224,7 +222,7 @@ pub full_promise : (task : Task) (space : Space) (seen : Option (List Sight)) (t
     → (report : PauseReport) (r : Reply) → KeepsPromise (terms_of task) (Pause report ∷ h) (Call t (op_now m) r)
 full_promise task space seen t m collected served h g dest shape may is full report r =
     let come = may.come in
-    let formed : IsWellFormed (op.New dest shape) = subst IsWellFormed is (well_formed_now m may.rests.mutator.sound) in
+    let formed : IsFormedFor task.plan.registers (op.New dest shape) = subst (IsFormedFor task.plan.registers) is (few_named_now (task_limits task) m may.rests.mutator) in
     let waited : IsWaitedFor (terms_of task) h (Call t (op.New dest shape) r) =
     is_waited_for task.renews task.plan task.script h space g t dest shape r come.history.0 may.between come.stands.moment come.limits formed.1 full in
     λ stands. subst (λ o. IsWaitedFor (terms_of task) h (Call t o r)) (sym is) waited

@@ -5,7 +5,7 @@ use Rattle.lxr_actor.specs.declared.Core.{Core}
 use Rattle.lxr_actor.specs.declared.Event.{Event}
 use Rattle.lxr_actor.specs.Run.{run}
 use Rattle.lxr_layout.specs.declared.limits.Limits.{Limits}
-use Rattle.lxr_image.specs.Settled.{KeepsLines}
+use Rattle.lxr_image.specs.Settled.{KeepsOpenLines}
 use Rattle.lxr_image.specs.Tables.{tables_in}
 use Rattle.lxr_image.specs.declared.rest.Rest.{Rest}
 use Rattle.lxr_image.specs.declared.space.Space.{Space}
@@ -32,7 +32,7 @@ sharing table kept = record { id = table.id; opening = table.opening; space = wh
 
 -- whatever schedule an epoch runs by, from these words and actors on, it keeps what is known of lines
 abbrev pub KeepsLinesAlways : Limits → Core AnyActor → Type 0
-KeepsLinesAlways limits core = (schedule : List Event) → KeepsLines (tables_in limits core.words) (tables_in limits (run any_machine core schedule).words)
+KeepsLinesAlways limits core = (schedule : List Event) → KeepsOpenLines (tables_in limits core.words) (tables_in limits (run any_machine core schedule).words)
 
 -- the event of an offer, or of a place that is taken out, came to a helper; a mutator's pass is left as it is
 abbrev pub ToldOfHelper : AnyActor → Passing AnyActor → Event → Passing AnyActor → Type 0

@@ -9,8 +9,8 @@ use lxr_core::AnyActor;
 use lxr_image::Space;
 use lxr_shared_passes::{ActorPass, close_passes};
 
-/// Ends the epoch, on the condition that all of its passes are there, in order, and that no schedule from the opening moves a line,
-/// so that what was known of lines is so still. Words and actors are those of one schedule from the opening, of which each pass has
+/// Ends the epoch, on the condition that all of its passes are there, in order, and that which lines are open stays through each schedule
+/// from the opening, so that what was known of lines is so still. Words and actors are those of one schedule from the opening, of which each pass has
 /// seen a beginning with all events of its own. What else the space has is as it was.
 pub fn close_shared(epoch: Epoch, passes: Vec<Pass>) -> (Space, Vec<AnyActor>)
     requires epoch { All (λ p. p.epoch ≡ epoch.id) passes.items }

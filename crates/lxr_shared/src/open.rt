@@ -17,7 +17,7 @@ use std::alloc::{AllocError, Global};
 /// from these words and actors each next step fits. After a refusal, space and actors are gone.
 pub fn open_shared(
     alloc: Global,
-    space: Space,
+    mut space: Space,
     actors: Vec<AnyActor>,
 ) -> Result<(Epoch, Vec<Pass>), AllocError>
     requires words { 0 < length space.words }
@@ -29,6 +29,7 @@ pub fn open_shared(
 {
     let spare = Vec::with_capacity(alloc, actors.len())?;
     let mut sealed = Vec::with_capacity(alloc, actors.len())?;
+    space.make_room_for_runs(alloc);
     let (words, rest) = space.into_parts();
     let (epoch, passes) = open_passes(alloc, words, actors)?;
     seal(passes, &mut sealed);

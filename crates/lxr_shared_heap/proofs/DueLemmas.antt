@@ -27,7 +27,7 @@ use Rattle.lxr_shared_heap.specs.declared.settings.Settings.{Settings}
 use Rattle.lxr_shared_heap.specs.Renewing.{IsRenewalDue, has_drained, is_at_end, is_renewal_due, is_worn, waits}
 use Rattle.lxr_shared_heap.specs.Resting.{HasRested}
 use Rattle.lxr_shared_heap.specs.Settings.{run_of}
-use Rattle.lxr_shared_heap.specs.Wanting.{is_ended}
+use Rattle.lxr_stations.specs.Wanting.{is_ended}
 use Rattle.lxr_shared_heap.proofs.IdleLemmas.{idle_last, none_wait, some_waiting}
 use Rattle.lxr_shared_heap.proofs.RenewingLemmas.{none_at_end, none_traced}
 

@@ -48,26 +48,26 @@ use Rattle.lxr_shared_heap.specs.declared.heap.Resumed.{Resumed}
 use Rattle.lxr_shared_heap.specs.declared.heap.Resumed.TheVariants as resumed
 use Rattle.lxr_shared_heap.specs.declared.heap.Stage.{Stage}
 use Rattle.lxr_shared_heap.specs.declared.heap.Stage.TheVariants as stage
-use Rattle.lxr_shared_heap.specs.declared.live.NotClosed.{NotClosed}
-use Rattle.lxr_shared_heap.specs.declared.live.NotClosed.TheVariants as why
-use Rattle.lxr_shared_heap.specs.declared.station.NotOut.{NotOut}
-use Rattle.lxr_shared_heap.specs.declared.station.NotOut.TheVariants as kept
-use Rattle.lxr_shared_heap.specs.declared.station.Arrival.{Arrival}
-use Rattle.lxr_shared_heap.specs.Arriving.{HasComeHome, IsHandedIn, Tells}
-use Rattle.lxr_shared_heap.specs.Stations.{IsNotOut, Lived, Stationed, housed_in}
-use Rattle.lxr_shared_heap.specs.Gathering.{HaveEndedFrom, HoldGivenUp, IsUnclosed, IsWantedByAll}
+use Rattle.lxr_stations.specs.declared.live.NotClosed.{NotClosed}
+use Rattle.lxr_stations.specs.declared.live.NotClosed.TheVariants as why
+use Rattle.lxr_stations.specs.declared.station.NotOut.{NotOut}
+use Rattle.lxr_stations.specs.declared.station.NotOut.TheVariants as kept
+use Rattle.lxr_stations.specs.declared.station.Arrival.{Arrival}
+use Rattle.lxr_stations.specs.Arriving.{HasComeHome, IsHandedIn, Tells}
+use Rattle.lxr_stations.specs.Stations.{IsNotOut, Lived, Stationed, housed_in}
+use Rattle.lxr_stations.specs.Gathering.{HaveEndedFrom, HoldGivenUp, IsUnclosed, IsWantedByAll}
 use Rattle.lxr_shared_heap.specs.declared.settings.Settings.{Settings}
 use Rattle.lxr_shared_heap.specs.Heaps.{AreAsHandedIn, ComesToRest, HasOpened, HasPaused, HasPausedWith, Heaped, HeapsHaveHistories, IsAtRest, IsHeapOf, IsKept, IsRenewed, Pauses, PausesWith, Resumes, StandsFor, TellsRenewed, actors_of, paused_for, space_at, still_asked}
-use Rattle.lxr_shared_heap.specs.Living.{AreLive}
-use Rattle.lxr_shared_heap.specs.Running.{BeganWith, ClosesLive, IsRunning, shown_of}
+use Rattle.lxr_stations.specs.Living.{AreLive}
+use Rattle.lxr_stations.specs.Running.{BeganWith, ClosesLive, IsRunning, shown_of}
 use Rattle.lxr_shared_heap.specs.Renewing.{RenewsWhere, StandsIdle, actor_renewed, ends_with_renewal, waits}
 use Rattle.lxr_shared_heap.specs.Resting.{GoesOnBehind, HasRested}
 use Rattle.lxr_shared_heap.specs.Settings.{run_of}
-use Rattle.lxr_shared_heap.proofs.LivingLemmas.{live_as, live_given, live_run}
+use Rattle.lxr_stations.proofs.LivingLemmas.{live_as, live_given, live_run}
 use Rattle.lxr_shared_heap.proofs.IdleLemmas.{idle_behind, none_wait}
 use Rattle.lxr_shared_heap.specs.Telling.{EndByNewest, EndsByNewest, HaveReplied}
 use Rattle.lxr_shared_heap.proofs.RecallLemmas.{answers_newest, newest_renewed}
-use Rattle.lxr_shared_heap.proofs.SeenLemmas.{beginning_leads, seen_begins}
+use Rattle.lxr_stations.proofs.SeenLemmas.{beginning_leads, seen_begins}
 use Rattle.lxr_shared_heap.proofs.TellingLemmas.{ends_newest, have_replied}
 
 -- ---- histories

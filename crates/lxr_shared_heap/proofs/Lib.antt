@@ -1,12 +1,3 @@
-pub mod HomeLemmas
-pub mod SeenLemmas
-pub mod ReplyLemmas
-pub mod StayingLemmas
-pub mod UnitLemmas
-pub mod LivingLemmas
-pub mod WantingLemmas
-pub mod WantedLemmas
-pub mod EpochLemmas
 pub mod MakingLemmas
 pub mod RestingLemmas
 pub mod NewestLemmas

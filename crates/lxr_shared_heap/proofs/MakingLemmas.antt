@@ -26,7 +26,7 @@ use Rattle.lxr_rounds_invariant.proofs.OpeningLemmas.{AreFirst, between_opened}
 use Rattle.lxr_rounds.specs.Helpers.{HelpersStandBehind}
 use Rattle.lxr_rounds.proofs.HelperLemmas.{behind_in_order, helpers_made, pushed_at, same_more}
 use Rattle.lxr_shared_heap.specs.declared.settings.Settings.{Settings}
-use Rattle.lxr_shared_heap.specs.Living.{AreLive, IsLive}
+use Rattle.lxr_stations.specs.Living.{AreLive, IsLive}
 use Rattle.lxr_shared_heap.specs.Making.{AreNew}
 use Rattle.lxr_shared_heap.specs.Telling.{EndByNewest, EndsByNewest}
 use Rattle.lxr_shared_heap.specs.Settings.{AreSettings, limits_in, run_of}

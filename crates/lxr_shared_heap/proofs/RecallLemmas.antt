@@ -25,7 +25,7 @@ use Rattle.lxr_mutator.specs.Naming.{all_told_as, told_as}
 use Rattle.lxr_mutator.proofs.NamingLemmas.{told_full, told_length, told_new}
 use Rattle.lxr_mutator.specs.Operating.{dest_of}
 use Rattle.lxr_mutator.specs.Steps.{after, done_with, with_register}
-use Rattle.lxr_mutator.specs.Orders.{takes_order, with_order}
+use Rattle.lxr_mutator.specs.Orders.{ordered_if, takes_order}
 use Rattle.lxr_mutator.specs.Laws.{StepsByRule}
 use Rattle.lxr_mutator.specs.Laws.StepsByRule.{does_one, finds_asked, finds_end, gave_up, goes_on, stands_still}
 use Rattle.lxr_mutator.proofs.StepLemmas.{step_by_rule}
@@ -119,9 +119,6 @@ acted_from words (any.Decrementer d) None = tt
 acted_from words (any.Decrementer d) (Some act) = tt
 acted_from words (any.Tracer d) None = tt
 acted_from words (any.Tracer d) (Some act) = tt
-
-abbrev ordered_if : Mutating → Op → Bool → Mutating × Bool
-ordered_if m o takes = if takes then (with_order m o, true) else (m, false)
 
 ordered_recalls : (m : Mutating) (o : Op) (takes : Bool) → Recalls m (ordered_if m o takes).0
 ordered_recalls m o true = still m _ refl refl refl

@@ -47,10 +47,10 @@ use Rattle.lxr_rounds_invariant.specs.Renewing.{AreRenewed}
 use Rattle.lxr_rounds_invariant.proofs.RenewingLemmas.{run_renewed}
 use Rattle.lxr_rounds_invariant.specs.LoopInvariant.{HasCome, IsBetweenEpochs, Task, terms_of, threads_of}
 use Rattle.lxr_shared_heap.specs.declared.settings.Settings.{Settings}
-use Rattle.lxr_shared_heap.specs.Living.{AreLive, IsLive}
+use Rattle.lxr_stations.specs.Living.{AreLive, IsLive}
 use Rattle.lxr_shared_heap.specs.Renewing.{CanActorRenew, HasRenewed, StandsIdle, actor_renewed, has_drained, is_at_end, is_renewal_due, is_worn}
 use Rattle.lxr_shared_heap.specs.Settings.{run_of}
-use Rattle.lxr_shared_heap.specs.Wanting.{is_ended}
+use Rattle.lxr_stations.specs.Wanting.{is_ended}
 use Rattle.lxr_shared_heap.proofs.ToldLemmas.{between_told}
 
 -- what a history that ends with a draining pause tells

@@ -39,21 +39,21 @@ use Rattle.lxr_core.proofs.ScriptLemmas.{scripts_go_on}
 use Rattle.lxr_core.proofs.ToldLemmas.{shown_in, shown_told, told_as_kept, told_length, told_state}
 use Rattle.lxr_shared.specs.Sharing.{Sharing}
 use Rattle.lxr_shared_passes.specs.Passing.{IsAt, Passing}
-use Rattle.lxr_rounds_history.specs.Growing.{CallsBeginScript}
+use Rattle.lxr_rounds_history.specs.Growing.{CallsBeginScript, NamesFew}
 use Rattle.lxr_rounds_history.proofs.HistoryLemmas.{history_extends}
 use Rattle.lxr_rounds_invariant.specs.Laws.{beginning_of}
 use Rattle.lxr_rounds_invariant.specs.LoopInvariant.{HaveMutators, Task, terms_of}
-use Rattle.lxr_rounds_invariant.proofs.ActorLemmas.{found, operations_at}
+use Rattle.lxr_rounds_invariant.proofs.ActorLemmas.{asked_few, found, operations_at}
 use Rattle.lxr_shared_heap.specs.declared.settings.Settings.{Settings}
 use Rattle.lxr_shared_heap.specs.declared.heap.Stage.{Stage as HeapStage}
 use Rattle.lxr_shared_heap.specs.declared.heap.Stage.TheVariants as stage
 use Rattle.lxr_shared_heap.specs.Heaps.{DoneIsTold, HasLimits, HasOpened, IsPassOf, MutatorsComeFirst, MutatorsHaveLimits, OpenIsTold, StandsFor, StationsTellHistories, told_behind}
-use Rattle.lxr_shared_heap.specs.Living.{AreLive}
+use Rattle.lxr_stations.specs.Living.{AreLive}
 use Rattle.lxr_shared_heap.specs.Settings.{plan_in, run_of}
 use Rattle.lxr_shared_heap.specs.Telling.{EndsByNewest, HasReplied, HaveReplied, TellsAnswer, TellsHistory, TellsNewest}
-use Rattle.lxr_shared_heap.specs.Stations.{Stationed, asked, is_mutator, replied}
+use Rattle.lxr_stations.specs.Stations.{Stationed, asked, is_mutator, replied}
 use Rattle.lxr_shared_heap.proofs.RecallLemmas.{all_come, newest_recalled}
-use Rattle.lxr_shared_heap.proofs.LivingLemmas.{live_run}
+use Rattle.lxr_stations.proofs.LivingLemmas.{live_run}
 use Rattle.lxr_shared_heap.proofs.NewestLemmas.{behind_is, newest_told, told_newest}
 
 -- ---- a mutator at rest
@@ -189,8 +189,12 @@ module _ (settings : Settings) (script : Script) (h : List Item) (epoch : Sharin
       subst (λ u. operations_of asked_now u ≡ all_of m.operations) number (operations_at asked_now (mutators_in now.core.actors) (t - 1) m refl at) in
       (n, subst (λ z. calls_of t now.history ≡ take n z) (sym operations) calls)
 
+  -- what it was asked names no more registers than the settings say
+  few : NamesFew settings.registers asked_now
+  few = subst (λ n. NamesFew n asked_now) (ap (λ (l : Limits). l.registers) open_epoch.before.come.limits) (asked_few open_epoch.space.limits (mutators_in now.core.actors) is.mutators)
+
   history : IsHistorySoFar (terms_of (run_of settings asked_now)) asked_now now.history
-  history = history_extends true (plan_in settings) script asked_now h now.history open_epoch.before.come.history open_epoch.before.owes_none on extends begun
+  history = history_extends true (plan_in settings) script asked_now h now.history open_epoch.before.come.history open_epoch.before.owes_none on few extends begun
 
   -- there is a mutator for each thread
   pub mutator_of : (number : ℕ) → number < length script → (m : Mutating) × (slice_get now.core.actors number ≡ Some (any.Mutator m))

@@ -32,23 +32,23 @@ use Rattle.lxr_shared_heap.specs.declared.heap.Resumed.{Resumed}
 use Rattle.lxr_shared_heap.specs.declared.heap.Resumed.TheVariants as resumed
 use Rattle.lxr_shared_heap.specs.declared.heap.Stage.{Stage}
 use Rattle.lxr_shared_heap.specs.declared.heap.Stage.TheVariants as stage
-use Rattle.lxr_shared_heap.specs.declared.live.NotClosed.{NotClosed}
-use Rattle.lxr_shared_heap.specs.declared.live.NotClosed.TheVariants as why
+use Rattle.lxr_stations.specs.declared.live.NotClosed.{NotClosed}
+use Rattle.lxr_stations.specs.declared.live.NotClosed.TheVariants as why
 use Rattle.lxr_shared_heap.specs.declared.settings.Settings.{Settings}
-use Rattle.lxr_shared_heap.specs.declared.station.Answer.TheVariants as answer
-use Rattle.lxr_shared_heap.specs.declared.station.NotOut.{NotOut}
-use Rattle.lxr_shared_heap.specs.declared.station.NotOut.TheVariants as kept
-use Rattle.lxr_shared_heap.specs.declared.station.Arrival.{Arrival}
-use Rattle.lxr_shared_heap.specs.Arriving.{HasComeHome, IsHandedIn, Tells}
-use Rattle.lxr_shared_heap.specs.Gathering.{HaveEndedFrom, IsWantedByAll}
-use Rattle.lxr_shared_heap.specs.Living.{AreLive}
+use Rattle.lxr_stations.specs.declared.station.Answer.TheVariants as answer
+use Rattle.lxr_stations.specs.declared.station.NotOut.{NotOut}
+use Rattle.lxr_stations.specs.declared.station.NotOut.TheVariants as kept
+use Rattle.lxr_stations.specs.declared.station.Arrival.{Arrival}
+use Rattle.lxr_stations.specs.Arriving.{HasComeHome, IsHandedIn, Tells}
+use Rattle.lxr_stations.specs.Gathering.{HaveEndedFrom, IsWantedByAll}
+use Rattle.lxr_stations.specs.Living.{AreLive}
 use Rattle.lxr_shared_heap.specs.Renewing.{IsRenewalDue, ends_with_renewal}
 use Rattle.lxr_shared_heap.specs.Resting.{GoesOnBehind}
-use Rattle.lxr_shared_heap.specs.Running.{IsRunning, shown_of}
+use Rattle.lxr_stations.specs.Running.{IsRunning, shown_of}
 use Rattle.lxr_shared_heap.specs.Settings.{AreSettings, run_of}
-use Rattle.lxr_shared_heap.specs.Stations.{HasAnswered, HasGoneOn, IsStationOf, Stationed, asked, housed_in, is_mutator, replied}
+use Rattle.lxr_stations.specs.Stations.{HasAnswered, HasGoneOn, IsStationOf, Stationed, asked, housed_in, is_mutator, replied}
 use Rattle.lxr_shared_heap.specs.Telling.{EndByNewest, HaveReplied, TellsAnswer, TellsHistory}
-use Rattle.lxr_shared_heap.specs.Wanting.{Wants}
+use Rattle.lxr_stations.specs.Wanting.{Wants}
 
 -- a heap: what it was opened with, and where it stands
 pub record Heaped : Type 0 where
@@ -186,10 +186,6 @@ Resumes resumed.Memory before after = IsBetween before.stage × (after.stage ≡
 abbrev pub IsPassOf : Stage → ℕ → Stationed → Type 0
 IsPassOf (stage.Within live) number s = IsStationOf (housed_in live) number s
 IsPassOf _ number s = ⊥
-
--- what was such a station still is one
-abbrev pub StaysPassOf : Stationed → Stationed → Type 0
-StaysPassOf s t = (at : Stage) (number : ℕ) → IsPassOf at number s → IsPassOf at number t
 
 -- why a pass is not let out: where no epoch is open, by where the heap stands; and for want of a share of the epoch only by a refusal of one (`NoShare`),
 -- which `another_share` alone makes

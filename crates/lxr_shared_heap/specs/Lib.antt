@@ -1,11 +1,4 @@
 pub mod Settings
-pub mod Homes
-pub mod Wanting
-pub mod Living
-pub mod Stations
-pub mod Arriving
-pub mod Gathering
-pub mod Running
 pub mod Making
 pub mod Resting
 pub mod Renewing

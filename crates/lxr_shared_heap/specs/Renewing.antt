@@ -19,9 +19,9 @@ use Rattle.lxr_core.specs.Actors.{mutators_in, script_of}
 use Rattle.lxr_one_pause.specs.Pausing.{IsDrained}
 use Rattle.lxr_rounds_invariant.specs.LoopInvariant.{IsBetweenEpochs}
 use Rattle.lxr_shared_heap.specs.declared.settings.Settings.{Settings}
-use Rattle.lxr_shared_heap.specs.Living.{AreLive}
+use Rattle.lxr_stations.specs.Living.{AreLive}
 use Rattle.lxr_shared_heap.specs.Settings.{run_of}
-use Rattle.lxr_shared_heap.specs.Wanting.{is_ended}
+use Rattle.lxr_stations.specs.Wanting.{is_ended}
 
 -- ---- when
 

@@ -1,6 +1,6 @@
 -- The settings of a heap: their ranges, and what its rounds go by.
 use Rattle.std.specs.Prelude.{ℕ, ◌/◌, ◌≤◌, true, None}
-use Rattle.lxr_layout.specs.declared.TheConstants.{REGISTERS}
+use Rattle.lxr_layout.specs.declared.TheConstants.{LEAST_REGISTERS, REGISTERS}
 use Rattle.lxr_layout.specs.declared.limits.Limits.{Limits}
 use Rattle.lxr_model.specs.Belongs.{Script}
 use Rattle.lxr_rounds_history.specs.Left.{plan_limits}
@@ -19,7 +19,7 @@ pub record AreSettings (settings : Settings) : Type 0 where
   pub helpers : IsInRange settings.helpers 8
   pub log : IsInRange settings.log 65536
   pub remember : IsInRange settings.remember 1048576
-  pub registers : (16 ≤ settings.registers) × (settings.registers ≤ REGISTERS)
+  pub registers : (LEAST_REGISTERS ≤ settings.registers) × (settings.registers ≤ REGISTERS)
   pub evacuate : settings.evacuate ≤ settings.blocks / 8
   pub every : IsInRange settings.every 1048576
   pub trace : IsInRange settings.trace 1000000

@@ -1,5 +1,5 @@
 //! A heap that threads of a host share.
-ghost use Rattle.std.specs.Prelude.{◌≡◌, ℕ, [], ◌∷◌, ◌<◌, ◌↔◌, IfErr, IfOk, IfSome, IsSome, List, None, length, option_map};
+ghost use Rattle.std.specs.Prelude.{◌≡◌, ℕ, [], ◌<◌, ◌↔◌, IfErr, IfOk, IfSome, IsSome, List, None, length, option_map};
 ghost use Rattle.lxr_graph.specs.History.{Item, report_of};
 ghost use Rattle.lxr_model.specs.Belongs.{Script};
 ghost use Rattle.lxr_model.specs.Moments.{moment};
@@ -9,26 +9,25 @@ ghost use Rattle.lxr_rounds_history.specs.Left.{last_report};
 ghost use Rattle.lxr_rounds_invariant.specs.LoopInvariant.{HasRunEpoch};
 ghost use Rattle.lxr_shared_heap.specs.Heaps.{ComesToRest, DoneIsTold, HeapsHaveHistories, IsAtRest, IsHeapOf, IsKept, IsOpened, IsPassOf, MutatorsComeFirst, MutatorsHaveLimits, OpenIsTold, Pauses, PausesWith, Resumes, StationsTellHistories, most_asked, most_asked_with, paused_for, space_at};
 ghost use Rattle.lxr_core.specs.Actors.{mutators_in, script_of};
-ghost use Rattle.lxr_shared_heap.specs.Living.{AreLive};
+ghost use Rattle.lxr_stations.specs.Living.{AreLive};
 ghost use Rattle.lxr_shared_heap.specs.Renewing.{ends_with_renewal};
 ghost use Rattle.lxr_shared_heap.specs.Resting.{HasMadeEpoch};
 ghost use Rattle.lxr_shared_heap.specs.Settings.{AreSettings, run_of};
-ghost use Rattle.lxr_shared_heap.specs.Arriving.{AreArrivalsOf, Tells};
-ghost use Rattle.lxr_shared_heap.specs.Stations.{Stationed, housed_in};
+ghost use Rattle.lxr_stations.specs.Arriving.{AreArrivalsOf, Tells};
+ghost use Rattle.lxr_stations.specs.Stations.{Stationed, housed_in};
 ghost use Rattle.lxr_shared_heap.specs.Telling.{EndByNewest};
 
-use crate::live::{Live, NotClosed, Unclosed};
 use crate::making::new_heap;
 use crate::packed::Packed;
 use crate::pausing::rest;
 use crate::renewing::{renew_where_due, some_waits};
 use crate::settings::Settings;
-use crate::station::{Arrival, NotOut, Station};
 use lxr_core::AnyActor;
 use lxr_graph::Report;
 use lxr_image::Space;
 use lxr_sights::{Unseen, Watch};
-use std::alloc::{AllocError, Global};
+use lxr_stations::{Arrival, Live, NotClosed, NotOut, Station, Unclosed};
+use std::alloc::Global;
 use std::marker::Model;
 use std::mem;
 

@@ -11,20 +11,12 @@
 #![tactic(auto)]
 
 mod heap;
-mod homes;
-mod live;
 mod making;
 mod packed;
 mod pausing;
 mod renewing;
 mod settings;
-mod share;
-mod shared;
-mod station;
-mod wanted;
 
 pub use heap::{Heap, Paused, Refused, Resumed};
-pub use homes::Homecoming;
+pub use lxr_stations::{Answer, Arrival, Homecoming, NoShare, NotOut, Station};
 pub use settings::Settings;
-pub use share::NoShare;
-pub use station::{Answer, Arrival, NotOut, Station};

@@ -4,7 +4,7 @@ ghost use Rattle.lxr_layout.specs.Spaces.{AreLimits};
 ghost use Rattle.lxr_invariant.specs.AbstractState.{AbstractState};
 ghost use Rattle.lxr_core.specs.Actors.{mutators_in};
 ghost use Rattle.lxr_rounds_invariant.specs.LoopInvariant.{IsBetweenEpochs};
-ghost use Rattle.lxr_shared_heap.specs.Living.{AreLive};
+ghost use Rattle.lxr_stations.specs.Living.{AreLive};
 ghost use Rattle.lxr_shared_heap.specs.Making.{AreNew};
 ghost use Rattle.lxr_shared_heap.specs.Settings.{AreSettings, run_of};
 ghost use Rattle.lxr_shared_heap.specs.Telling.{EndByNewest};

@@ -3,7 +3,7 @@ ghost use Rattle.std.specs.Prelude.{◌≡◌, ◌≤◌, ◌↔◌, IsTrue};
 ghost use Rattle.lxr_rounds_invariant.specs.LoopInvariant.{pace_of};
 ghost use Rattle.lxr_shared_heap.specs.Settings.{AreSettings, limits_in, plan_in};
 
-use lxr_layout::{Limits, MOST_BLOCKS};
+use lxr_layout::{LEAST_REGISTERS, Limits, MOST_BLOCKS, REGISTERS};
 use lxr_one_pause::Pace;
 
 /// What a heap is opened with.
@@ -19,7 +19,7 @@ pub struct Settings {
     pub log: u32,
     /// The room for remembered fields, in entries: 1 to 1,048,576.
     pub remember: u32,
-    /// How many registers each mutator may name: 16 to 256.
+    /// How many registers each mutator may name: `LEAST_REGISTERS` to `REGISTERS` of `lxr_layout`, 16 to 256.
     pub registers: u16,
     /// How many blocks are chosen for evacuation at most when a trace begins: 0 to an eighth of all. The pause that ends the trace pays for them.
     pub evacuate: u32,
@@ -48,7 +48,7 @@ impl Settings {
         if !is_within(self.remember, 1_048_576) || !is_within(self.every, 1_048_576) {
             return false;
         }
-        if self.registers < 16 || self.registers > 256 {
+        if self.registers < LEAST_REGISTERS || usize::from(self.registers) > REGISTERS {
             return false;
         }
         if self.evacuate > self.blocks / 8 {

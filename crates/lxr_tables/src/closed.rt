@@ -6,10 +6,11 @@
 //! no look at pages, so `open` fills all that are left. That happens once: from then on neither call copies or fills a
 //! word or takes memory, and the time of both doesn't grow with the number of words.
 
-ghost use Rattle.std.specs.Prelude.{◌≡◌, ℕ, ◌<◌, List, [], length, slice_index, slice_set, replicate, IfOk};
+ghost use Rattle.std.specs.Prelude.{◌≡◌, ℕ, ◌+◌, ◌<◌, ◌≤◌, List, [], length, slice_index, slice_set, replicate, IfOk};
 ghost use Rattle.std.specs.Mem.Slots.{slots_items};
 ghost use Rattle.atomic_table.specs.Table.{opening, Final, Seen};
 ghost use Rattle.lxr_tables.specs.Pages.{IsReadable};
+ghost use Rattle.lxr_tables.specs.Words.{overwritten};
 
 use crate::KeyFrom;
 use crate::memory::TableMemory;
@@ -75,6 +76,17 @@ impl<A: Allocator> ClosedWords<A> {
         match &mut self.pages {
             Some(pages) => pages.put(&mut self.memory.words, at, value),
             None => self.memory.words.put(at, value),
+        }
+    }
+
+    /// Writes words in a row from an index on; all others stay. Where all pages are written it is one copy.
+    pub fn set_all(&mut self, at: usize, values: &[u64])
+        requires { at + length values.now ≤ length self.old }
+        ensures { self.new ≡ overwritten self.old at values.now }
+    {
+        match &mut self.pages {
+            Some(pages) => pages.put_all(&mut self.memory.words, at, values),
+            None => self.memory.words.copy_in(at, values),
         }
     }
 

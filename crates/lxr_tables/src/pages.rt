@@ -6,6 +6,7 @@ ghost use Rattle.std.specs.Prelude.{◌≡◌, ℕ, ◌+◌, ◌*◌, ◌/◌, �
 ghost use Rattle.std.specs.Mem.Slots.{slots_items, slots_filled, slots_len, SamePlaces, IsFull};
 ghost use Rattle.lxr_tables.specs.declared.pages.TheConstants.{WORDS_IN_PAGE};
 ghost use Rattle.lxr_tables.specs.Pages.{AreSoMany, IsPaged};
+ghost use Rattle.lxr_tables.specs.Words.{overwritten};
 
 use core::slots::Slots;
 use std::alloc::{AllocError, Allocator};
@@ -87,6 +88,19 @@ impl<A: Allocator> Pages<A> {
             self.written[page] = true;
         }
         row.put(at, value);
+    }
+
+    /// Puts words in a row from an index on, as `put` does each.
+    pub(crate) fn put_all(&mut self, row: &mut Slots<u64>, at: usize, values: &[u64])
+        requires paged { IsPaged row.old self.old }
+        requires within { at + length values.now ≤ slots_len row.old }
+        ensures paged { IsPaged row.new self.new }
+        ensures words { slots_items row.new ≡ overwritten (slots_items row.old) at values.now }
+        ensures places { SamePlaces row.old row.new }
+    {
+        for (offset, value) in values.iter().enumerate() {
+            self.put(row, at + offset, *value);
+        }
     }
 
     /// Writes each page that is not written.

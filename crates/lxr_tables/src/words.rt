@@ -3,8 +3,9 @@
 //! `Words` is what the tables ask of their words. `PlainWords` are words of one owner; contracts see the list of them.
 //! They lie in the memory of a closed table of atomic words, so that an epoch opens that over them, and gives them back at
 //! its end, without a copy. That memory is written where it is touched, and whole once a table was opened over it.
-ghost use Rattle.std.specs.Prelude.{◌≡◌, ℕ, ◌+◌, ◌<◌, List, [], length, slice_index, slice_set, replicate, IfOk};
+ghost use Rattle.std.specs.Prelude.{◌≡◌, ℕ, ◌+◌, ◌<◌, ◌≤◌, List, [], length, slice_index, slice_set, replicate, IfOk};
 ghost use Rattle.atomic_table.specs.Table.{opening, Final, Seen};
+ghost use Rattle.lxr_tables.specs.Words.{overwritten};
 
 use crate::{ClosedWords, KeyFrom};
 use atomic_table::{Seat, Table, TableRule};
@@ -63,6 +64,17 @@ impl PlainWords {
         Ok(PlainWords {
             closed: Some(closed),
         })
+    }
+
+    /// Writes words in a row from an index on; all others stay.
+    pub fn set_all(&mut self, at: usize, values: &[u64])
+        requires { at + length values.now ≤ length self.old }
+        ensures { self.new ≡ overwritten self.old at values.now }
+    {
+        match &mut self.closed {
+            Some(closed) => closed.set_all(at, values),
+            None => {}
+        }
     }
 
     /// A table of atomic words over these, where they lie, and its first seat. The condition is that there are words, and

@@ -1,8 +1,8 @@
 //! A pause with what is handed in to it, stations that go to other threads, and the last pause.
 ghost use Rattle.std.specs.Prelude.{ℕ, List, [], ◌∷◌, Some, IfSome};
-ghost use Rattle.lxr_shared_heap.specs.Arriving.{Tells};
+ghost use Rattle.lxr_stations.specs.Arriving.{Tells};
 ghost use Rattle.lxr_shared_heap.specs.Heaps.{IsPassOf};
-ghost use Rattle.lxr_shared_heap.specs.Stations.{Stationed};
+ghost use Rattle.lxr_stations.specs.Stations.{Stationed};
 
 use lxr_graph::{Op, Reply};
 use lxr_shared_heap::{Answer, Arrival, Heap, NotOut, Paused, Resumed, Settings, Station};

@@ -15,16 +15,16 @@ loop-block-init c =
       within = next.range.1;
     }
 
-pub note_none_out-requires-clause-block : goal.note_none_out-requires-clause-block
-note_none_out-requires-clause-block c = let turned = ap (λ z. z.limits.blocks) c.clear_block.ensures.rest in let below = c.loop-block-test.true in omega (arith, turned, below)
+pub know_none_out-requires-clause-block : goal.know_none_out-requires-clause-block
+know_none_out-requires-clause-block c = let turned = ap (λ z. z.limits.blocks) c.clear_block.ensures.rest in let below = c.loop-block-test.true in omega (arith, turned, below)
 
-pub note_none_out-requires-clause-none : goal.note_none_out-requires-clause-none
-note_none_out-requires-clause-none c = none_out c.loop-block.space c.clear_block.new.space c.loop-block.block c.clear_block.ensures
+pub know_none_out-requires-clause-none : goal.know_none_out-requires-clause-none
+know_none_out-requires-clause-none c = none_out c.loop-block.space c.clear_block.new.space c.loop-block.block c.clear_block.ensures
 
 pub next_handed-block-requires-in-loop-block : goal.next_handed-block-requires-in-loop-block
 next_handed-block-requires-in-loop-block c =
     let turned = ap (λ z. z.limits.blocks) c.clear_block.ensures.rest in
-    let noted = ap (λ z. z.limits.blocks) c.note_none_out.ensures in
+    let noted = ap (λ z. z.limits.blocks) c.know_none_out.ensures in
     let below = c.loop-block-test.true in omega (arith, turned, noted, below)
 
 pub loop-block-preserved : goal.loop-block-preserved
@@ -32,15 +32,15 @@ loop-block-preserved c =
     let s = c.args.space.now in
     let is = c.loop-block.invariant in
     let block = c.loop-block.block in
-    let noted = c.note_none_out.new.self in
+    let noted = c.know_none_out.new.self in
     let cleared : Turns s noted (with_clear (tables_of s) Outs (in_first Outs (block + 1))) =
-    subst (λ z. Turns s z (with_clear (tables_of s) Outs (in_first Outs (block + 1)))) (sym c.note_none_out.ensures)
+    subst (λ z. Turns s z (with_clear (tables_of s) Outs (in_first Outs (block + 1)))) (sym c.know_none_out.ensures)
     (clear_then s c.loop-block.space c.clear_block.new.space Outs _ _ (in_first Outs (block + 1)) (λ k x. first_more Outs block k x) is.turns c.clear_block.ensures) in
     let last : noted.limits.blocks ≡ s.limits.blocks = ap (λ z. z.limits.blocks) cleared.rest in
     let next = c.next_handed-block-in-loop-block.ensures in
     let end = next.range.1 in
     record {
-      space = subst IsSpace (sym c.note_none_out.ensures) (clear_space c.loop-block.space c.clear_block.new.space Outs _ is.space c.clear_block.ensures);
+      space = subst IsSpace (sym c.know_none_out.ensures) (clear_space c.loop-block.space c.clear_block.new.space Outs _ is.space c.clear_block.ensures);
       turns = outs_passed s noted (block + 1) c.next_handed-block-in-loop-block.result next.range.0 next.passed cleared;
       within = omega (arith, end, last);
     }

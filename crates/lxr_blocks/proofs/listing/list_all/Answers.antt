@@ -1,7 +1,8 @@
 use Rattle.std.proofs.Common.{◌≡◌, ◌+◌, ◌-◌, ◌++◌, ◌∙◌, ap, arith, length, length-append, refl, subst, sym}
+use Rattle.lxr_image.specs.Runs.{with_runs}
 use Rattle.lxr_image.specs.Spaces.{Turns, tables_of}
 use Rattle.lxr_image.proofs.SpaceLemmas.{still_space}
-use Rattle.lxr_blocks.specs.Listing.{block_frees, block_runs, joined, listed_frees, listed_runs, numbers_from, with_frees, with_listed, with_runs}
+use Rattle.lxr_blocks.specs.Listing.{block_frees, block_runs, joined, listed_frees, listed_runs, numbers_from, with_frees, with_listed}
 use Rattle.lxr_blocks.specs.States.{AreFreeBlocks, state_in}
 use Rattle.lxr_blocks.specs.declared.states.BlockState.TheVariants.{Free}
 use Rattle.lxr_blocks.proofs.ListingLemmas.{frees_over_free, frees_past_used, joined_more, joined_none, length_numbers, listed_frees_more, listed_runs_more, none_listed, runs_over_free}

@@ -2,7 +2,8 @@ use Rattle.std.proofs.Common.{◌≡◌, ◌+◌, ◌∙◌, arith, subst, sym}
 use Rattle.std.specs.Prelude.{max}
 use Rattle.lxr_blocks.specs.Masks.{AreEdges}
 use Rattle.lxr_blocks.proofs.LineLemmas.{HasFree, NoneLonger, greater_is, has_longer, has_none, longer_end, longer_more, longer_none}
-use Rattle.lxr_blocks.proofs.MaskLemmas.{bits_of, longest_bits, mask_of_bits}
+use Rattle.lxr_image.specs.Runs.{bits_of}
+use Rattle.lxr_blocks.proofs.MaskLemmas.{longest_bits, mask_of_bits}
 use Rattle.lxr_blocks.proofs.states.longest_of.Goals as goal
 
 pub loop-run-init : goal.loop-run-init

@@ -2,7 +2,7 @@ use Rattle.std.proofs.Common.{◌-◌, ◌≤◌}
 use Rattle.lxr_layout.specs.declared.TheConstants.{LINES_IN_BLOCK}
 use Rattle.lxr_blocks.specs.Masks.{AreEdges}
 use Rattle.lxr_blocks.proofs.LineLemmas.{HasFree, NoneLonger}
-use Rattle.lxr_blocks.proofs.MaskLemmas.{bits_of}
+use Rattle.lxr_image.specs.Runs.{bits_of}
 use Rattle.lxr_blocks.proofs.states.longest_of.Given as goal
 
 abbrev pub invariant-loop-run : goal.invariant-loop-run

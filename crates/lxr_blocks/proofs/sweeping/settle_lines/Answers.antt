@@ -1,4 +1,4 @@
-use Rattle.std.proofs.Common.{◌≡◌, ◌+◌, ap, arith, inr, refl, subst, sym}
+use Rattle.std.proofs.Common.{◌≡◌, ◌+◌, ap, arith, refl, subst, sym}
 use Rattle.lxr_image.specs.Settled.{AreCountedIn}
 use Rattle.lxr_image.specs.Spaces.{Turns, tables_of}
 use Rattle.lxr_image.proofs.SpaceLemmas.{still_space}
@@ -14,7 +14,7 @@ loop-block-init c =
     record {
       space = c.requires.space;
       turns = record {
-        tables = passed_swept t t 0 c.next_noted-block.result (none_swept t) (omega arith) (λ k from within. inr (next.passed k (omega arith) within)) (λ k h. c.requires.free k (let end = next.range.1 in omega (arith, h, end)));
+        tables = passed_swept t t 0 c.next_noted-block.result (none_swept t) (omega arith) (λ k from within. next.passed k (omega arith) within);
         rest = refl;
       };
       within = next.range.1;
@@ -46,7 +46,7 @@ loop-block-preserved c =
     record {
       space = still_space c.loop-block.space swept (with_state_by_lines (tables_of c.loop-block.space) block) before.space c.settle_block.ensures refl;
       turns = record {
-        tables = passed_swept t (tables_of swept) (block + 1) c.next_noted-block-in-loop-block.result one.tables next.range.0 (λ k from within. inr (next.passed k from within)) (λ k h. c.requires.free k (omega (arith, h, end, last)));
+        tables = passed_swept t (tables_of swept) (block + 1) c.next_noted-block-in-loop-block.result one.tables next.range.0 (λ k from within. next.passed k from within);
         rest = one.rest;
       };
       within = omega (arith, end, last);

@@ -9,18 +9,18 @@ use Rattle.lxr_blocks.proofs.sweeping.sweep_lines.Goals as goal
 pub loop-block-init : goal.loop-block-init
 loop-block-init c =
     let s = c.args.space.now in let t = tables_of s in
-    let next = c.next_unswept-block.ensures in
+    let next = c.next_noted-block.ensures in
     record {
-      space = c.requires.space;
+      space = c.requires;
       turns = record {
-        tables = passed_swept t t 0 c.next_unswept-block.result (none_swept t) (omega arith) (λ k from within. next.passed k (omega arith) within) (λ k h. c.requires.free k (let end = next.range.1 in omega (arith, h, end)));
+        tables = passed_swept t t 0 c.next_noted-block.result (none_swept t) (omega arith) (λ k from within. next.passed k (omega arith) within);
         rest = refl;
       };
       within = next.range.1;
     }
 
-pub next_unswept-block-requires-in-loop-block-clause-from : goal.next_unswept-block-requires-in-loop-block-clause-from
-next_unswept-block-requires-in-loop-block-clause-from c =
+pub next_noted-block-requires-in-loop-block : goal.next_noted-block-requires-in-loop-block
+next_noted-block-requires-in-loop-block c =
     let turned = ap (λ z. z.limits.blocks) c.renew_state.ensures.rest in let below = c.loop-block-test.true in omega (arith, turned, below)
 
 pub loop-block-preserved : goal.loop-block-preserved
@@ -31,12 +31,12 @@ loop-block-preserved c =
     let swept = c.renew_state.new.space in
     let one : Turns s swept (with_states_by_lines t (block + 1)) = more_swept s c.loop-block.space swept block before.turns c.renew_state.ensures in
     let last : swept.limits.blocks ≡ s.limits.blocks = ap (λ z. z.limits.blocks) one.rest in
-    let next = c.next_unswept-block-in-loop-block.ensures in
+    let next = c.next_noted-block-in-loop-block.ensures in
     let end = next.range.1 in
     record {
       space = still_space c.loop-block.space swept (with_state_by_lines (tables_of c.loop-block.space) block) before.space c.renew_state.ensures refl;
       turns = record {
-        tables = passed_swept t (tables_of swept) (block + 1) c.next_unswept-block-in-loop-block.result one.tables next.range.0 (λ k from within. next.passed k from within) (λ k h. c.requires.free k (omega (arith, h, end, last)));
+        tables = passed_swept t (tables_of swept) (block + 1) c.next_noted-block-in-loop-block.result one.tables next.range.0 (λ k from within. next.passed k from within);
         rest = one.rest;
       };
       within = omega (arith, end, last);

@@ -3,7 +3,7 @@ use Rattle.lxr_large_model.specs.History.{LargeItem, Called}
 use Rattle.lxr_c_base.specs.declared.codes.Code.TheVariants as code
 use Rattle.std.specs.Prelude.{Some}
 use Rattle.lxr_c_many.specs.Applying.{Performs}
-use Rattle.lxr_c_heap.proofs.RegisterLemmas.{known, made_keeps, replied_keeps, stored_keeps}
+use Rattle.lxr_c_heap.proofs.RegisterLemmas.{known, made_all, made_keeps, replied_all, replied_keeps, stored_all, stored_keeps}
 use Rattle.lxr_c_many.proofs.applying.perform.Goals as goal
 
 pub returns-in-Make-clause-performs : goal.returns-in-Make-clause-performs
@@ -42,3 +42,12 @@ returns-in-Store-clause-registers c = known c.args.heap.now _ _ c.requires.servi
 
 pub returns-in-Reply-clause-registers : goal.returns-in-Reply-clause-registers
 returns-in-Reply-clause-registers c = known c.args.heap.now _ _ c.requires.serving.holds (λ h is. replied_keeps c.args.heap.now c.reply.new.self h c.in-Reply.op c.reply.result (c.reply.ensures.replies h is.heap))
+
+pub returns-in-Make-clause-all : goal.returns-in-Make-clause-all
+returns-in-Make-clause-all c = known c.args.heap.now _ _ c.requires.serving.holds (λ h is. made_all c.args.heap.now c.make.new.self h c.in-Make.op c.make.result (c.make.ensures.makes h is))
+
+pub returns-in-Store-clause-all : goal.returns-in-Store-clause-all
+returns-in-Store-clause-all c = known c.args.heap.now _ _ c.requires.serving.holds (λ h is. stored_all c.args.heap.now c.store.new.self h c.in-Store.op c.store.result (c.store.ensures.stores h is))
+
+pub returns-in-Reply-clause-all : goal.returns-in-Reply-clause-all
+returns-in-Reply-clause-all c = known c.args.heap.now _ _ c.requires.serving.holds (λ h is. replied_all c.args.heap.now c.reply.new.self h c.in-Reply.op c.reply.result (c.reply.ensures.replies h is.heap))

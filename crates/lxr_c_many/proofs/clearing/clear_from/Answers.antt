@@ -11,9 +11,8 @@ loop-register-init c = record { serving = c.requires.serving; registers = refl; 
 
 pub overflow_cast-register : goal.overflow_cast-register
 overflow_cast-register c =
-    let end = c.registers-register-end.ensures in
     let few = few_registers c.args.heap.now c.requires.serving.holds in
-    omega (arith, end, few)
+    omega (arith, few)
 
 pub nil_at-requires-clause-dest : goal.nil_at-requires-clause-dest
 nil_at-requires-clause-dest c =

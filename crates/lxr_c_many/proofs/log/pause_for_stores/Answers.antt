@@ -58,7 +58,7 @@ returns-clause-pauses c = λ h is.
       settles = settled;
       history = behind_pause c.pause.new.self k;
       pauses = inl ((c.log_is_short.ensures k holds.heap has).0 c.if-not-log_is_short.false, paused, refl);
-      holds = paused_host c.settle.new.self c.pause.new.self k false paused;
+      holds = paused_host c.settle.new.self c.pause.new.self k false holds paused;
       ready = paused_may c.pause.new.self k c.args.base c.args.first c.args.count (references_few c.settle.new.self.heap k holds.heap c.args.base (c.args.first + c.args.count) c.ranges.base.fits has) has;
     }
 

@@ -2,8 +2,9 @@ use Rattle.std.proofs.Common.{◌+◌, ◌∷◌, ◌++◌, ◌∙◌, arith, su
 use Rattle.std.specs.Prelude.{IsTrue}
 use mathlib.Core.Logic.{∥∥₁_elim, ∥∥₁_prop}
 use Rattle.lxr_large_model.specs.History.{Called}
-use Rattle.lxr_c_heap.specs.Hosting.{registers_in}
-use Rattle.lxr_c_heap.proofs.RegisterLemmas.{few_registers}
+use Rattle.lxr_c_heap.specs.Hosting.{all_registers_in, registers_in}
+use Rattle.lxr_c_heap.proofs.OperationLemmas.{making_more}
+use Rattle.lxr_c_heap.proofs.RegisterLemmas.{few_registers, named_few}
 use Rattle.lxr_c_many.specs.Fields.{are_registers, store_of}
 use Rattle.lxr_c_many.specs.Following.{newest_first}
 use Rattle.lxr_c_many.specs.Making.{new_of}
@@ -11,6 +12,11 @@ use Rattle.lxr_c_many.proofs.FollowLemmas.{follows_holds, follows_on}
 use Rattle.lxr_c_many.proofs.MakingLemmas.{filled, made_object, made_same, none_filled}
 use Rattle.lxr_c_many.proofs.StateLemmas.{stores_keep_words}
 use Rattle.lxr_c_many.proofs.making.make.Goals as goal
+
+pub make-reply-requires-clause-op : goal.make-reply-requires-clause-op
+make-reply-requires-clause-op c =
+    let x = c.args.heap.now in
+    making_more (registers_in x) (all_registers_in x) (new_of c.args.wanted) (named_few x c.requires.serving.holds) ((c.requires.wanted.dest, c.requires.wanted.fits), tt)
 
 pub returns-then-not-makes_one-clause-makes : goal.returns-then-not-makes_one-clause-makes
 returns-then-not-makes_one-clause-makes c = λ h is.

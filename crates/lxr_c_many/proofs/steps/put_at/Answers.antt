@@ -1,6 +1,15 @@
-use Rattle.lxr_c_heap.proofs.RegisterLemmas.{known, replied_keeps}
+use Rattle.lxr_graph.specs.declared.Op.TheVariants as op
+use Rattle.lxr_large_model.specs.declared.LargeOp.TheVariants as large_op
+use Rattle.lxr_c_heap.specs.Hosting.{all_registers_in, registers_in}
+use Rattle.lxr_c_heap.proofs.OperationLemmas.{quiet_more}
+use Rattle.lxr_c_heap.proofs.RegisterLemmas.{known, named_few, replied_keeps}
 use Rattle.lxr_c_many.proofs.StepLemmas.{put_done}
 use Rattle.lxr_c_many.proofs.steps.put_at.Goals as goal
+
+pub reply-requires-clause-op : goal.reply-requires-clause-op
+reply-requires-clause-op c =
+    let x = c.args.heap.now in
+    quiet_more (registers_in x) (all_registers_in x) (large_op.Small (op.Put c.args.base c.args.index c.args.value)) (named_few x c.requires.serving.holds) (c.requires.base, tt)
 
 pub returns-clause-put : goal.returns-clause-put
 returns-clause-put c = λ h is has. put_done c.args.heap.now c.reply.new.self h c.args.base c.args.index c.args.value c.reply.result has (c.reply.ensures.replies h is)

@@ -1,5 +1,5 @@
 use Rattle.std.proofs.Common.{◌≡◌, true}
-use Rattle.lxr_shared_heap.specs.Stations.{is_mutator}
+use Rattle.lxr_stations.specs.Stations.{is_mutator}
 use Rattle.lxr_c_shared.proofs.RefusalLemmas.{used_up}
 use Rattle.lxr_c_shared.proofs.passing.refusal.Goals as goal
 

@@ -9,7 +9,7 @@ use Rattle.lxr_model.proofs.CollectLemmas.{whole_so_far}
 use Rattle.lxr_rounds_invariant.specs.LoopInvariant.{IsBetweenEpochs, terms_of}
 use Rattle.lxr_shared_heap.specs.declared.heap.Stage.TheVariants as stage
 use Rattle.lxr_shared_heap.specs.Heaps.{ComesToRest}
-use Rattle.lxr_shared_heap.specs.Living.{AreLive}
+use Rattle.lxr_stations.specs.Living.{AreLive}
 use Rattle.lxr_shared_heap.specs.Renewing.{RenewsWhere, StandsIdle, is_renewal_due, waits}
 use Rattle.lxr_shared_heap.specs.Resting.{HasRested}
 use Rattle.lxr_shared_heap.specs.Settings.{run_of}

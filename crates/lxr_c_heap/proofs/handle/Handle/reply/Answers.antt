@@ -3,8 +3,9 @@ use Rattle.std.proofs.lemmas.Option.{same_Some}
 use Rattle.std.specs.Prelude.{IfOk}
 use Rattle.lxr_c_base.specs.Requests.{IsQuiet}
 use Rattle.lxr_c_heap.specs.Keeping.{registers_kept}
-use Rattle.lxr_c_heap.specs.Hosting.{IsServing, Replies}
-use Rattle.lxr_c_heap.proofs.RegisterLemmas.{known, replied_keeps, still_counted}
+use Rattle.lxr_c_heap.specs.Hosting.{IsServing, Replies, all_registers_in, registers_in}
+use Rattle.lxr_c_heap.proofs.OperationLemmas.{quiet_more}
+use Rattle.lxr_c_heap.proofs.RegisterLemmas.{known, named_few, replied_keeps, still_counted}
 use Rattle.lxr_c_heap.proofs.CallLemmas.{asks_done}
 use Rattle.lxr_c_heap.proofs.handle.Handle.reply.Goals as goal
 
@@ -12,7 +13,10 @@ pub reply-requires-clause-serving : goal.reply-requires-clause-serving
 reply-requires-clause-serving c = c.args.self.now.serving c.lend.result.now c.lend.ensures.heap
 
 pub reply-requires-clause-op : goal.reply-requires-clause-op
-reply-requires-clause-op c = subst (λ k. IsQuiet (registers_kept k) c.in_ok-op.op) c.lend.ensures.heap (subst (λ q. IfOk q (IsQuiet (registers_kept c.args.self.now.block.value))) c.in_ok-op.was c.requires)
+reply-requires-clause-op c =
+    let x = c.lend.result.now in
+    quiet_more (registers_in x) (all_registers_in x) c.in_ok-op.op (named_few x (c.args.self.now.serving x c.lend.ensures.heap).holds)
+    (subst (λ k. IsQuiet (registers_kept k) c.in_ok-op.op) c.lend.ensures.heap (subst (λ q. IfOk q (IsQuiet (registers_kept c.args.self.now.block.value))) c.in_ok-op.was c.requires))
 
 pub invariant_of-self-clause-counted : goal.invariant_of-self-clause-counted
 invariant_of-self-clause-counted c =

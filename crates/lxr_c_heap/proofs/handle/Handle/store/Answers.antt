@@ -3,8 +3,9 @@ use Rattle.std.proofs.lemmas.Option.{same_Some}
 use Rattle.std.specs.Prelude.{IfOk}
 use Rattle.lxr_c_base.specs.Requests.{IsStoring}
 use Rattle.lxr_c_heap.specs.Keeping.{registers_kept}
-use Rattle.lxr_c_heap.specs.Hosting.{IsServing, Stores}
-use Rattle.lxr_c_heap.proofs.RegisterLemmas.{known, still_counted, stored_keeps}
+use Rattle.lxr_c_heap.specs.Hosting.{IsServing, Stores, all_registers_in, registers_in}
+use Rattle.lxr_c_heap.proofs.OperationLemmas.{storing_more}
+use Rattle.lxr_c_heap.proofs.RegisterLemmas.{known, named_few, still_counted, stored_keeps}
 use Rattle.lxr_c_heap.proofs.CallLemmas.{asks_done}
 use Rattle.lxr_c_heap.proofs.handle.Handle.store.Goals as goal
 
@@ -12,7 +13,10 @@ pub store-requires-clause-serving : goal.store-requires-clause-serving
 store-requires-clause-serving c = c.args.self.now.serving c.lend.result.now c.lend.ensures.heap
 
 pub store-requires-clause-op : goal.store-requires-clause-op
-store-requires-clause-op c = subst (λ k. IsStoring (registers_kept k) c.in_ok-op.op) c.lend.ensures.heap (subst (λ q. IfOk q (IsStoring (registers_kept c.args.self.now.block.value))) c.in_ok-op.was c.requires)
+store-requires-clause-op c =
+    let x = c.lend.result.now in
+    storing_more (registers_in x) (all_registers_in x) c.in_ok-op.op (named_few x (c.args.self.now.serving x c.lend.ensures.heap).holds)
+    (subst (λ k. IsStoring (registers_kept k) c.in_ok-op.op) c.lend.ensures.heap (subst (λ q. IfOk q (IsStoring (registers_kept c.args.self.now.block.value))) c.in_ok-op.was c.requires))
 
 pub invariant_of-self-clause-counted : goal.invariant_of-self-clause-counted
 invariant_of-self-clause-counted c =

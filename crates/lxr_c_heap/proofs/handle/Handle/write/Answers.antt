@@ -2,9 +2,8 @@ use Rattle.std.proofs.Common.{◌∙◌, ap, arith, refl, sym, Some, subst}
 use Rattle.std.proofs.lemmas.Option.{same_Some}
 use Rattle.lxr_c_base.specs.Requests.{register_of}
 use Rattle.lxr_c_heap.specs.Keeping.{registers_kept}
-use Rattle.lxr_c_heap.specs.Hosting.{IsServing}
-use Rattle.lxr_large_model.specs.Full.{LargeTerms}
-use Rattle.lxr_c_heap.proofs.RegisterLemmas.{known, still_counted}
+use Rattle.lxr_c_heap.specs.Hosting.{IsServing, registers_in}
+use Rattle.lxr_c_heap.proofs.RegisterLemmas.{named_few, still_counted}
 use Rattle.lxr_c_heap.proofs.CallLemmas.{writes_done}
 use Rattle.lxr_c_heap.proofs.handle.Handle.write.Goals as goal
 
@@ -15,12 +14,13 @@ pub write-requires-clause-base : goal.write-requires-clause-base
 write-requires-clause-base c =
     let named = c.in_ok-base.ensures.named in
     let same = c.registers.ensures.counted ∙ ap registers_kept c.lend.ensures.heap in
-    omega (arith, named, same)
+    let few = named_few c.lend.result.now (c.args.self.now.serving c.lend.result.now c.lend.ensures.heap).holds in
+    omega (arith, named, same, few)
 
 pub invariant_of-self-clause-counted : goal.invariant_of-self-clause-counted
 invariant_of-self-clause-counted c =
     let x = c.lend.result.now in
-    still_counted c.args.self.now.block.value x c.write.new.self _ c.args.self.now.counted c.lend.ensures.heap (known x _ _ (c.args.self.now.serving x c.lend.ensures.heap).holds (λ h is. ap (λ (t : LargeTerms). t.registers) (c.write.ensures.writes h is.heap).terms))
+    still_counted c.args.self.now.block.value x c.write.new.self _ c.args.self.now.counted c.lend.ensures.heap (ap registers_in c.write.ensures.rest)
 
 pub invariant_of-self-clause-serving : goal.invariant_of-self-clause-serving
 invariant_of-self-clause-serving c = λ x is. subst IsServing (same_Some c.write.new.self x is) c.write.ensures.serving

@@ -1,7 +1,7 @@
 use Rattle.std.proofs.Common.{◌∙◌, refl, arith, inl, inr, subst, sym, true≢false}
 use mathlib.Core.Logic.{∥∥₁_elim}
 use Rattle.lxr_heap.specs.Acting.{Acts as HeapActs}
-use Rattle.lxr_c_heap.specs.Hosting.{Replies, registers_in}
+use Rattle.lxr_c_heap.specs.Hosting.{Replies, all_registers_in}
 use Rattle.lxr_c_heap.proofs.RoomLemmas.{bytes_room}
 use Rattle.lxr_c_heap.proofs.host.HostHeap.act_behind.Goals as goal
 
@@ -19,7 +19,7 @@ unreachable-requires c = ∥∥₁_elim c.requires.ready (λ x y. absurd x) (λ 
 
 pub count_bytes-requires-clause-room : goal.count_bytes-requires-clause-room
 count_bytes-requires-clause-room c =
-    bytes_room c.args.self.now c.args.op c.in-Replied.reply (registers_in c.args.self.now, c.requires.op) (let few = c.requires.made in omega (arith, few)) c.requires.bytes
+    bytes_room c.args.self.now c.args.op c.in-Replied.reply (all_registers_in c.args.self.now, c.requires.op) (let few = c.requires.made in omega (arith, few)) c.requires.bytes
 
 pub returns : goal.returns
 returns c = λ h w.

@@ -1,9 +1,9 @@
 use Rattle.std.proofs.Common.{◌∙◌, arith, false, subst, sym}
 use Rattle.lxr_heap.specs.Acting.{MayBeCalled}
 use Rattle.lxr_c_heap.specs.declared.host.TheConstants.{ENDS}
-use Rattle.lxr_c_heap.specs.Hosting.{IsDue, registers_in}
+use Rattle.lxr_c_heap.specs.Hosting.{IsDue, all_registers_in}
 use Rattle.lxr_c_heap.proofs.OperationLemmas.{making_may}
-use Rattle.lxr_c_heap.proofs.RegisterLemmas.{known, settled_keeps, where_keeps}
+use Rattle.lxr_c_heap.proofs.RegisterLemmas.{known, settled_all, where_all}
 use Rattle.lxr_c_heap.proofs.RoomLemmas.{paused_holds, settled_holds}
 use Rattle.lxr_c_heap.proofs.host.HostHeap.make.Goals as goal
 
@@ -13,11 +13,11 @@ settle-requires-clause-ends c = record { made = omega arith; pauses = omega arit
 pub act-requires-clause-op : goal.act-requires-clause-op
 act-requires-clause-op c =
     let x = c.args.self.now in
-    let same = known x (registers_in c.pause_if_due.new.self) (registers_in x) c.requires.serving.holds (λ h is.
+    let same = known x (all_registers_in c.pause_if_due.new.self) (all_registers_in x) c.requires.serving.holds (λ h is.
     let (k, settled) = c.settle.ensures.settled h is.heap in
     let (l, paused) = c.pause_if_due.ensures.pauses k (settled_holds ENDS x c.settle.new.self h k is settled) in
-    where_keeps (IsDue c.settle.new.self k) false c.settle.new.self c.pause_if_due.new.self k l paused ∙ settled_keeps ENDS x c.settle.new.self h k settled) in
-    subst (λ n. MayBeCalled n c.args.op) (sym same) (making_may (registers_in x) c.args.op c.requires.op)
+    where_all (IsDue c.settle.new.self k) false c.settle.new.self c.pause_if_due.new.self k l paused ∙ settled_all ENDS x c.settle.new.self h k settled) in
+    subst (λ n. MayBeCalled n c.args.op) (sym same) (making_may (all_registers_in x) c.args.op c.requires.op)
 
 pub returns-clause-makes : goal.returns-clause-makes
 returns-clause-makes c = λ h is.

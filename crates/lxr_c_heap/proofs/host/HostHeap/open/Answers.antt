@@ -6,7 +6,8 @@ use Rattle.lxr_c_heap.proofs.host.HostHeap.open.Goals as goal
 pub returns-clause-opened : goal.returns-clause-opened
 returns-clause-opened c =
     let wanted = c.args.wanted.now in
-    opened_with c.in_ok-heap.heap wanted c.of-pace.result c.limit.result _ (subst (IsOpenedHeap c.in_ok-heap.heap wanted.blocks wanted.body_blocks) c.registers.ensures c.in_ok-heap.ensures) c.of-pace.ensures c.limit.ensures
+    opened_with c.in_ok-heap.heap wanted c.registers-named.result c.of-pace.result c.limit.result _ (subst (IsOpenedHeap c.in_ok-heap.heap wanted.blocks wanted.body_blocks) c.with_own.ensures.own c.in_ok-heap.ensures) c.registers-named.ensures
+    c.of-pace.ensures c.limit.ensures
 
 pub returns-clause-serving : goal.returns-clause-serving
-returns-clause-serving c = opened_serves _ c.args.wanted.now (returns-clause-opened c)
+returns-clause-serving c = opened_serves _ c.args.wanted.now c.requires (returns-clause-opened c)

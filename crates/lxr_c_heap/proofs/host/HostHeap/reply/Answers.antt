@@ -1,21 +1,21 @@
 use Rattle.std.proofs.Common.{inl, inr, subst}
 use mathlib.Core.Logic.{∥∥₁_elim}
 use Rattle.lxr_heap.specs.Acting.{Acts as HeapActs}
-use Rattle.lxr_c_heap.specs.Hosting.{registers_in}
+use Rattle.lxr_c_heap.specs.Hosting.{all_registers_in}
 use Rattle.lxr_c_heap.proofs.OperationLemmas.{quiet_log, quiet_may, quiet_place}
 use Rattle.lxr_c_heap.proofs.RoomLemmas.{quiet_room, quiet_same}
 use Rattle.lxr_c_heap.proofs.host.HostHeap.reply.Goals as goal
 
 pub act-requires-clause-op : goal.act-requires-clause-op
-act-requires-clause-op c = quiet_may (registers_in c.args.self.now) c.args.op c.requires.op
+act-requires-clause-op c = quiet_may (all_registers_in c.args.self.now) c.args.op c.requires.op
 
 pub unreachable-requires : goal.unreachable-requires
 unreachable-requires c = ∥∥₁_elim c.requires.serving.holds (λ x y. absurd x) (λ of.
     let (h, at) = of in
     let is = at.heap in
     elim c.in-Room.is [
-      | inl room ↦ quiet_place (registers_in c.args.self.now) c.args.self.now.heap c.args.op c.requires.op (subst (HeapActs c.args.self.now.heap c.act.new.self h c.args.op) room (c.act.ensures h is)).0
-      | inr log ↦ quiet_log (registers_in c.args.self.now) c.args.self.now.heap _ c.args.op c.requires.op (subst (HeapActs c.args.self.now.heap c.act.new.self h c.args.op) log (c.act.ensures h is)).0
+      | inl room ↦ quiet_place (all_registers_in c.args.self.now) c.args.self.now.heap c.args.op c.requires.op (subst (HeapActs c.args.self.now.heap c.act.new.self h c.args.op) room (c.act.ensures h is)).0
+      | inr log ↦ quiet_log (all_registers_in c.args.self.now) c.args.self.now.heap _ c.args.op c.requires.op (subst (HeapActs c.args.self.now.heap c.act.new.self h c.args.op) log (c.act.ensures h is)).0
     ])
 
 pub returns-clause-replies : goal.returns-clause-replies

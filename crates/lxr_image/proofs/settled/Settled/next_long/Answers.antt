@@ -1,5 +1,4 @@
-use Rattle.std.proofs.Common.{◌≡◌, ◌-◌, sym, arith}
-use Rattle.lxr_image.specs.Settled.{IsSettled}
+use Rattle.std.proofs.Common.{◌-◌, sym, arith}
 use Rattle.lxr_image.proofs.SettledLemmas.{longest_known}
 use Rattle.lxr_image.proofs.settled.Settled.next_long.Goals as goal
 

@@ -1,4 +1,4 @@
-use Rattle.std.proofs.Common.{◌≡◌, ap, subst, sym, arith}
+use Rattle.std.proofs.Common.{subst, sym, arith}
 use Rattle.lxr_image.specs.Settled.{Knows}
 use Rattle.lxr_image.proofs.SettledLemmas.{note_known, unnoted_known}
 use Rattle.lxr_image.proofs.settled.Settled.note.Goals as goal

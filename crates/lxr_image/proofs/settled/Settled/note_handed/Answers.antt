@@ -1,4 +1,4 @@
-use Rattle.std.proofs.Common.{◌≡◌, subst, sym, arith}
+use Rattle.std.proofs.Common.{subst, sym, arith}
 use Rattle.std.specs.Prelude.{slice_set}
 use Rattle.lxr_image.specs.declared.settled.TheConstants.{NOTED}
 use Rattle.lxr_image.specs.Settled.{Knows}

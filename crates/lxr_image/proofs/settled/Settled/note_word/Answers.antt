@@ -20,6 +20,6 @@ returns-in-States-clause-knows c t u k touches = c.note_in.ensures.knows t u k (
 
 pub returns-in-Heap : goal.returns-in-Heap
 returns-in-Heap c = record {
-  blocks = c.note_other.ensures.blocks;
-  knows = λ t u k touches. c.note_other.ensures.knows t u k (λ same. tells_nothing c.args.table c.args.block t u c.in-Heap.is (touches same));
+  blocks = c.keep_known.ensures.blocks;
+  knows = λ t u k touches. c.keep_known.ensures.knows t u k (λ same. tells_nothing c.args.table c.args.block t u c.in-Heap.is (touches same));
 }

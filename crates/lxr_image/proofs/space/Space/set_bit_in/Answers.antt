@@ -2,5 +2,5 @@ use Rattle.std.proofs.Common.{◌∙◌, sym}
 use Rattle.lxr_image.proofs.WriteLemmas.{size_is}
 use Rattle.lxr_image.proofs.space.Space.set_bit_in.Goals as goal
 
-pub set_bit-requires-clause-size : goal.set_bit-requires-clause-size
-set_bit-requires-clause-size c = sym (size_is c.args.self.now.limits c.args.self.now.words) ∙ c.requires.space.size
+pub put_bit-requires-clause-size : goal.put_bit-requires-clause-size
+put_bit-requires-clause-size c = sym (size_is c.args.self.now.limits c.args.self.now.words) ∙ c.requires.space.size

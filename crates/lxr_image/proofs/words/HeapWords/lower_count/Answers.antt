@@ -1,6 +1,5 @@
 use Rattle.std.proofs.Common.{◌≡◌, ℕ, ◌∙◌, ap, subst, sym, length}
 use Rattle.std.specs.Prelude.{slice_index, slice_set}
-use Rattle.lxr_layout.specs.Spaces.{counts_region, region_begin}
 use Rattle.lxr_tables.specs.Counts.{lowered_count, lowered_of}
 use Rattle.lxr_tables.specs.Entries.{counts_from}
 use Rattle.lxr_image.specs.Tables.{changed, tables_in}

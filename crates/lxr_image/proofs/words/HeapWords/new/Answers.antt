@@ -1,4 +1,4 @@
-use Rattle.std.proofs.Common.{◌≡◌, ◌∙◌, ap}
+use Rattle.std.proofs.Common.{◌∙◌, ap}
 use Rattle.lxr_image.specs.Settled.{of_blocks}
 use Rattle.lxr_image.specs.Tables.{tables_in}
 use Rattle.lxr_image.proofs.OpenLemmas.{tables_cleared}

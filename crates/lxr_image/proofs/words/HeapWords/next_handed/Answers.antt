@@ -1,4 +1,4 @@
-use Rattle.std.proofs.Common.{◌<◌, arith, subst, sym}
+use Rattle.std.proofs.Common.{arith, subst, sym}
 use Rattle.lxr_image.specs.Settled.{NoneIsOut, of_blocks}
 use Rattle.lxr_image.specs.Tables.{tables_in}
 use Rattle.lxr_image.proofs.WriteLemmas.{none_out_moved, told_by}

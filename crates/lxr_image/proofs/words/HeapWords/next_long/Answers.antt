@@ -1,4 +1,4 @@
-use Rattle.std.proofs.Common.{◌-◌, ◌<◌, arith, subst, sym}
+use Rattle.std.proofs.Common.{◌-◌, arith, subst, sym}
 use Rattle.lxr_image.specs.Settled.{HasNoLonger, of_blocks}
 use Rattle.lxr_image.specs.Tables.{tables_in}
 use Rattle.lxr_image.proofs.WriteLemmas.{longer_moved, told_by}

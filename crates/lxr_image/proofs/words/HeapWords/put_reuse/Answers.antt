@@ -16,7 +16,7 @@ written c = c.set.ensures ∙ ap (λ r. slice_set c.self.inside.plain (r.reuse +
 pub invariant_of-self : goal.invariant_of-self
 invariant_of-self c =
     let inside = reuse_word_within c.args.limits c.self.inside.plain c.args.at (ap length c.self.view_is ∙ c.requires.size) c.requires.at in
-    reuse_known c.self.inside.settled c.note_other.new.self c.args.limits c.self.inside.plain c.set.new.self c.note_other.ensures.blocks c.args.at c.note_other.ensures.knows c.requires.at
+    reuse_known c.self.inside.settled c.keep_known.new.self c.args.limits c.self.inside.plain c.set.new.self c.keep_known.ensures.blocks c.args.at c.keep_known.ensures.knows c.requires.at
     (subst (λ vs. OthersStay c.self.inside.plain vs (region_begin c.args.limits reuse_region + c.args.at)) (sym (written c)) (others_stay c.self.inside.plain (region_begin c.args.limits reuse_region + c.args.at) c.args.value inside)) c.self.invariant
 
 pub returns : goal.returns

@@ -1,6 +1,4 @@
 use Rattle.std.proofs.Common.{◌≡◌, ◌∙◌, ap, sym, length}
-use Rattle.std.specs.Prelude.{slice_index}
-use Rattle.lxr_tables.specs.Entries.{counts_from}
 use Rattle.lxr_image.specs.Tables.{changed, tables_in}
 use Rattle.lxr_image.proofs.WriteLemmas.{count_at, count_known, count_put}
 use Rattle.lxr_image.proofs.words.HeapWords.raise_count.Goals as goal

@@ -1,0 +1,13 @@
+pub mod RunLemmas
+pub mod StepLemmas
+pub mod SideLemmas
+pub mod PlanLemmas
+pub mod ElementLemmas
+pub mod LoadLemmas
+pub mod SettleLemmas
+pub mod StoreLemmas
+pub mod NewLemmas
+pub mod PartLemmas
+pub mod FillLemmas
+pub mod CopyLemmas
+pub mod RootLemmas

@@ -1,0 +1,300 @@
+-- A new root has nils.
+use Rattle.std.proofs.Common.{◌≡◌, ◌≢◌, ℕ, zero, suc, ◌+◌, ◌-◌, ◌*◌, ◌/◌, ◌%◌, ◌<◌, ◌≤◌, ◌∙◌, refl, sym, ap, subst, arith, cond, inl, inr, Option, Some, None, List, [], ◌∷◌, ◌++◌, length, map}
+use Rattle.std.specs.Prelude.{IsTrue, is_some, min, option_map, replicate, slice_get, slice_index_or, slice_set, unwrap_or, if◌then◌else◌, Ok}
+use Rattle.std.proofs.lemmas.Bool.{cases_eq, cases_lt, eq-eqb, lt-leb, ne_eqb}
+use Rattle.std.proofs.lemmas.List.{get_or_past, length-map, length-replicate, length-set, map-id}
+use Rattle.std.proofs.lemmas.Option.{get_or_from_slice_get, same_Some, slice_get-map}
+use Rattle.lxr_layout.specs.declared.Name.{Name}
+use Rattle.lxr_layout.specs.declared.Shape.{Shape}
+use Rattle.lxr_layout.specs.declared.TheConstants.{REGISTERS}
+use Rattle.lxr_graph.specs.Renewing.{renewed_held}
+use Rattle.lxr_graph.specs.State.{HasObject, Object, object_at, refs_of, register_at, values_of, with_register, with_value}
+use Rattle.lxr_graph.specs.Step.{fresh, put_at, put_to}
+use Rattle.lxr_graph.proofs.RowLemmas.{object_at-with_value, slice_get-set}
+use Rattle.lxr_graph.proofs.NameSets.{same_itself}
+use Rattle.lxr_large_model.specs.State.{LargeState}
+use Rattle.lxr_c_heap.specs.declared.own.OwnRegisters.{OwnRegisters}
+use Rattle.lxr_c_arrays.specs.Elements.{NewRootsHaveNils, as_named, element_in, elements_at, elements_of, references_of}
+use Rattle.lxr_c_arrays.specs.Plans.{IsNewArray, own_nil, part_length, part_steps, parts_plan, root_steps}
+use Rattle.lxr_c_arrays.proofs.NewLemmas.{GotObject, make_first, new_held, new_object, next, old_object, old_register}
+use Rattle.lxr_c_arrays.proofs.SettleLemmas.{Settled, named_object}
+use Rattle.lxr_c_arrays.proofs.StoreLemmas.{SetReference, changed_now, held_now, object_now, store_first, unlike}
+use Rattle.std.specs.List.{range_with_len}
+use Rattle.lxr_graph.specs.declared.Op.TheVariants as op
+use Rattle.lxr_large_model.specs.declared.LargeOp.TheVariants as large_op
+use Rattle.lxr_large_model.specs.History.{LargeItem, large_state}
+use Rattle.lxr_large_model.specs.Step.{large_step}
+use Rattle.lxr_c_base.specs.declared.codes.Code.TheVariants as code
+use Rattle.lxr_c_heap.specs.declared.host.HostHeap.{HostHeap}
+use Rattle.lxr_c_heap.specs.Hosting.{IsHostOf, own_in, registers_in}
+use Rattle.lxr_c_many.specs.Fields.{references_in, words_in}
+use Rattle.lxr_c_many.specs.declared.asked.Asked.{Asked}
+use Rattle.lxr_c_many.proofs.ApplyLemmas.{performs_host}
+use Rattle.lxr_c_many.proofs.MakingLemmas.{all_registers}
+use Rattle.lxr_c_arrays.specs.declared.making.NewArray.{NewArray}
+use Rattle.lxr_c_arrays.specs.Operations.{move_of, new_of, nil_of, put_of, store_of}
+use Rattle.lxr_c_arrays.specs.Running.{Carries, Runs, in_turn}
+use Rattle.lxr_c_arrays.specs.Sides.{root_length}
+use Rattle.lxr_c_arrays.proofs.ElementLemmas.{changed_register, few_registers, nil_last, other_register}
+use Rattle.lxr_c_arrays.proofs.PlanLemmas.{own_first, own_second, own_there}
+use Rattle.lxr_c_arrays.proofs.RunLemmas.{runs_apart, runs_host}
+
+-- ---- an object of nils
+
+nils_named : (ns : List Name) (n : ℕ) → map (renewed_held ns) (replicate n None) ≡ replicate n None
+nils_named ns zero = refl
+nils_named ns (suc n) = ap (λ vs. None ∷ vs) (nils_named ns n)
+
+fresh_named : (names : Option (List Name)) (shape : Shape) → named_object names (fresh shape) ≡ fresh shape
+fresh_named None shape = refl
+fresh_named (Some ns) shape = ap (λ vs. record { refs = vs; values = replicate shape.values 0 }) (nils_named ns shape.refs)
+
+values_named : (names : Option (List Name)) (o : Object) → (named_object names o).values ≡ o.values
+values_named None o = refl
+values_named (Some ns) o = refl
+
+refs_named : (names : Option (List Name)) (o : Object) → (named_object names o).refs ≡ map (as_named names) o.refs
+refs_named None o = sym (map-id o.refs)
+refs_named (Some ns) o = refl
+
+-- ---- the parts so far
+
+abbrev part_shape : ℕ → ℕ → Shape
+part_shape elements k = record { refs = part_length elements k; values = 0 }
+
+-- a reference of the root refers to part k
+abbrev HasPart : ℕ → LargeState → Object → ℕ → Type 0
+HasPart elements u o k = (p : Name) × (slice_get o.refs k ≡ Some (Some p)) × (object_at u.small.graph p ≡ Some (fresh (part_shape elements k)))
+
+-- so many parts of a root were made
+record Parts (own : OwnRegisters) (elements total n : ℕ) (u : LargeState) : Type 0 where
+  pub root : Name
+  pub object : Object
+  pub held : register_at u.small 1 own.first ≡ Some root
+  pub there : object_at u.small.graph root ≡ Some object
+  pub values : object.values ≡ elements ∷ []
+  pub long : length object.refs ≡ total
+  pub parts : (k : ℕ) → k < n → HasPart elements u object k
+
+-- a register holds a part
+abbrev HoldsPart : LargeState → ℕ → Shape → Type 0
+HoldsPart u dest shape = (q : Name) × (register_at u.small 1 dest ≡ Some q) × (object_at u.small.graph q ≡ Some (fresh shape))
+
+module _ (own : OwnRegisters) (elements total n : ℕ) where
+  parts_settled : (u b : LargeState) → Parts own elements total n u → Settled u b → Parts own elements total n b
+  parts_settled u b had settled =
+      let names = settled.names in
+      let (m, named, now) = settled.object own.first had.root had.object had.held had.there in
+      record {
+        root = m;
+        object = named_object names had.object;
+        held = settled.registers own.first ∙ ap (as_named names) had.held ∙ named;
+        there = now;
+        values = values_named names had.object ∙ had.values;
+        long = ap length (refs_named names had.object) ∙ length-map had.object.refs (as_named names) ∙ had.long;
+        parts = λ k less.
+            let (p, read, found) = had.parts k less in
+            let (q, called, here) = settled.part own.first k had.root p had.object (fresh (part_shape elements k)) had.held had.there read found in (
+              q,
+              ap (λ vs. slice_get vs k) (refs_named names had.object) ∙ slice_get-map (as_named names) had.object.refs k ∙ ap (option_map (as_named names)) read ∙ ap (λ v. Some v) called,
+              here ∙ ap (λ o. Some o) (fresh_named names (part_shape elements k)),
+            );
+      }
+
+  held_settled : (u b : LargeState) (dest : ℕ) (shape : Shape) → HoldsPart u dest shape → Settled u b → HoldsPart b dest shape
+  held_settled u b dest shape (q, held, there) settled =
+      let (m, named, now) = settled.object dest q (fresh shape) held there in
+      (m, settled.registers dest ∙ ap (as_named settled.names) held ∙ named, now ∙ ap (λ o. Some o) (fresh_named settled.names shape))
+
+  is_there : (u : LargeState) (m : Name) (o : Object) → object_at u.small.graph m ≡ Some o → HasObject u.small.graph m
+  is_there u m o there = subst (λ v. IsTrue (is_some v)) (sym there) refl
+
+  parts_new : (b w : LargeState) (shape : Shape) → own.first ≢ own.second → Parts own elements total n b → GotObject b w own.second shape → Parts own elements total n w
+  parts_new b w shape apart had made = record {
+    root = had.root;
+    object = had.object;
+    held = old_register b w own.second shape made own.first apart ∙ had.held;
+    there = old_object b w own.second shape made had.root (is_there b had.root had.object had.there) ∙ had.there;
+    values = had.values;
+    long = had.long;
+    parts = λ k less.
+        let (p, read, found) = had.parts k less in
+        (p, read, old_object b w own.second shape made p (is_there b p (fresh (part_shape elements k)) found) ∙ found);
+  }
+
+  part_stored : (u b w : LargeState) → n < total → Parts own elements total n b → HoldsPart b own.second (part_shape elements n) → (settled : Settled u b) → SetReference b w own.first n own.second → Parts own elements total (suc n) w
+  part_stored u b w less had (q, held, there) settled set =
+      let root_is : set.name ≡ had.root = same_Some set.name had.root (sym set.held ∙ had.held) in
+      let object_is : set.object ≡ had.object = same_Some set.object had.object (sym set.there ∙ ap (object_at b.small.graph) root_is ∙ had.there) in
+      let v = register_at b.small 1 own.second in
+      let refs = set.object.refs in
+      let kept : (p : Name) (k : ℕ) → object_at b.small.graph p ≡ Some (fresh (part_shape elements k)) → object_at w.small.graph p ≡ Some (fresh (part_shape elements k)) =
+      λ p k found.
+      let apart : p ≢ set.name = λ e.
+      let one : fresh (part_shape elements k) ≡ had.object = same_Some (fresh (part_shape elements k)) had.object (sym found ∙ ap (object_at b.small.graph) (e ∙ root_is) ∙ had.there) in
+      let none : [] ≡ elements ∷ [] = ap (λ (o : Object). o.values) one ∙ had.values in
+      absurd (cc) in
+      object_now u b own.first n own.second settled w set p ∙ ap (λ c. cond c (Some (record set.object { refs = slice_set refs n v })) (object_at b.small.graph p)) (unlike p set.name apart) ∙ found in
+      record {
+        root = set.name;
+        object = record set.object { refs = slice_set refs n v };
+        held = held_now u b own.first n own.second settled w set;
+        there = changed_now u b own.first n own.second settled w set;
+        values = ap (λ (o : Object). o.values) object_is ∙ had.values;
+        long = length-set refs n v ∙ ap (λ (o : Object). length o.refs) object_is ∙ had.long;
+        parts = λ k few. elim (cases_eq k n) [
+          | inl same ↦ subst (HasPart elements w (record set.object { refs = slice_set refs n v })) (sym same)
+              (q, slice_get-set refs n v n set.within ∙ ap (λ c. cond c (Some v) (slice_get refs n)) (eq-eqb n n refl) ∙ ap (λ z. Some z) held, kept q n there)
+          | inr differs ↦
+              let (p, read, found) = had.parts k (omega (arith, few, differs)) in
+              (p, slice_get-set refs n v k set.within ∙ ap (λ c. cond c (Some v) (slice_get refs k)) (ne_eqb k n differs) ∙ ap (λ (o : Object). slice_get o.refs k) object_is ∙ read, kept p k found)
+        ];
+      }
+
+-- ---- the operations
+
+put_is : (s : LargeState) (base value word : ℕ) (root : Name) (o : Object) → register_at s.small 1 base ≡ Some root → object_at s.small.graph root ≡ Some o → slice_get o.values 0 ≡ Some word
+    → (large_step s (large_op.Small (op.Put base 0 value))).0 ≡ record s { small = record s.small { graph = with_value s.small.graph root 0 value (Some o) } }
+put_is s base value word root o held there read =
+    ap (λ q. record s { small = (put_to s.small 0 value q).0 }) held
+    ∙ ap (λ q. record s { small = (put_at s.small root 0 value q).0 }) (ap (λ p. slice_get (values_of p) 0) there ∙ read)
+    ∙ ap (λ p. record s { small = record s.small { graph = with_value s.small.graph root 0 value p } }) there
+
+put_last : (x y : HostHeap) (h k : List LargeItem) (base value : ℕ) → IsHostOf x h → Runs x h (put_of base 0 value ∷ []) y k code.Done
+    → IsHostOf y k × (large_state k ≡ (large_step (large_state h) (large_op.Small (op.Put base 0 value))).0)
+put_last x y h k base value is (m, j, t, (r, replies, left, told), inl (done, (same, behind, end))) =
+    let host : IsHostOf m j = performs_host x m h j (put_of base 0 value) t is (r, replies, left, told) in
+    (subst (IsHostOf y) (sym behind) (subst (λ (z : HostHeap). IsHostOf z j) (sym same) host), ap large_state behind ∙ ap large_state left)
+put_last x y h k base value is (m, j, t, performs, inr (failed, same, left, told)) = absurd (failed (sym told))
+
+move_last : (x y : HostHeap) (h k : List LargeItem) (dest source : ℕ) → IsHostOf x h → Runs x h (move_of dest source ∷ []) y k code.Done
+    → IsHostOf y k × (large_state k ≡ record (large_state h) { small = with_register (large_state h).small 1 dest (register_at (large_state h).small 1 source) })
+move_last x y h k dest source is (m, j, t, (r, replies, left, told), inl (done, (same, behind, end))) =
+    let host : IsHostOf m j = performs_host x m h j (move_of dest source) t is (r, replies, left, told) in
+    (subst (IsHostOf y) (sym behind) (subst (λ (z : HostHeap). IsHostOf z j) (sym same) host), ap large_state behind ∙ ap large_state left)
+move_last x y h k dest source is (m, j, t, performs, inr (failed, same, left, told)) = absurd (failed (sym told))
+
+module _ (own : OwnRegisters) (elements total : ℕ) (apart : own.first ≢ own.second) (few : own.first < REGISTERS) (room : own.second < REGISTERS) where
+  part_rounds : (x y : HostHeap) (h k : List LargeItem) (n : ℕ) → IsHostOf x h → n ≤ total → Parts own elements total 0 (large_state h) → Runs x h (in_turn (part_steps own elements) n) y k code.Done
+      → Parts own elements total n (large_state k)
+  part_rounds x y h k zero is within had (same, left, done) = subst (λ l. Parts own elements total 0 (large_state l)) (sym left) had
+  part_rounds x y h k (suc n) is within had ran =
+      let (m, j, before, last) = runs_apart x y h k (in_turn (part_steps own elements) n) (part_steps own elements n) ran in
+      let parts = part_rounds x m h j n is (omega (arith, within)) had before in
+      let host = runs_host x m h j (in_turn (part_steps own elements) n) code.Done is before in
+      let new = make_first m y j k own.second (part_length elements n) 0 (store_of own.first n own.second ∷ []) host last in
+      let shape : Shape = part_shape elements n in
+      let b = new.before in
+      let w : LargeState = large_state new.history in
+      let made = parts_new own elements total n b w shape apart (parts_settled own elements total n (large_state j) b parts new.settled) new.made in
+      let one = store_first new.heap y new.history k own.first n own.second [] new.host new.rest in
+      let c = one.before in
+      let v : LargeState = large_state one.history in
+      let part = held_settled own elements total n w c own.second shape (next b w own.second shape new.made, new_held b w own.second shape new.made room, new_object b w own.second shape new.made) one.settled in
+      subst (λ l. Parts own elements total (suc n) (large_state l)) (sym one.rest.1)
+      (part_stored own elements total n w c v (omega (arith, within)) (parts_settled own elements total n w c made one.settled) part one.settled one.set)
+
+  root_begun : (x y : HostHeap) (h k : List LargeItem) → IsHostOf x h → Runs x h (new_of own.first total 1 ∷ put_of own.first 0 elements ∷ []) y k code.Done → Parts own elements total 0 (large_state k)
+  root_begun x y h k is ran =
+      let shape : Shape = record { refs = total; values = 1 } in
+      let new = make_first x y h k own.first total 1 (put_of own.first 0 elements ∷ []) is ran in
+      let b = new.before in
+      let w : LargeState = large_state new.history in
+      let put = put_last new.heap y new.history k own.first elements new.host new.rest in
+      let root = next b w own.first shape new.made in
+      let held = new_held b w own.first shape new.made few in
+      let there = new_object b w own.first shape new.made in
+      let after = put.1 ∙ put_is w own.first elements 0 root (fresh shape) held there refl in
+      record {
+        root = root;
+        object = record (fresh shape) { values = elements ∷ [] };
+        held = ap (λ (z : LargeState). register_at z.small 1 own.first) after ∙ held;
+        there = ap (λ (z : LargeState). object_at z.small.graph root) after ∙ object_at-with_value w.small.graph root 0 elements (fresh shape) root there
+            ∙ ap (λ c. cond c (Some (record (fresh shape) { values = elements ∷ [] })) (object_at w.small.graph root)) (same_itself root);
+        values = refl;
+        long = length-replicate total None;
+        parts = λ k less. absurd (omega (arith, less));
+      }
+
+-- ---- the elements
+
+nil_at : (n j : ℕ) → ◌≡◌ {A = Option Name} (slice_index_or (replicate n None) j None) None
+nil_at zero j = get_or_past [] j None (omega arith)
+nil_at (suc n) zero = refl
+nil_at (suc n) (suc j) = nil_at n j
+
+map_nils : (f : ℕ → Option Name) → ((i : ℕ) → f i ≡ None) → (a n : ℕ) → map f (range_with_len a n) ≡ replicate n None
+map_nils f nils a zero = refl
+map_nils f nils a (suc n) = ap (λ v. v ∷ map f (range_with_len (a + 1) n)) (nils a) ∙ ap (λ vs. None ∷ vs) (map_nils f nils (a + 1) n)
+
+element_nil : (own : OwnRegisters) (elements total : ℕ) (u : LargeState) (parts : Parts own elements total total u) (i : ℕ) → element_in u.small.graph parts.object.refs i ≡ None
+element_nil own elements total u parts i =
+    let refs = parts.object.refs in
+    let long = parts.long in
+    elim (cases_lt (i / 1023) (length refs)) [
+      | inl less ↦
+          let (p, read, found) = parts.parts (i / 1023) (omega (arith, less, long)) in
+          ap (λ v. slice_index_or (references_of u.small.graph v) (i % 1023) None) (get_or_from_slice_get refs (i / 1023) (Some p) None read)
+          ∙ ap (λ o. slice_index_or (refs_of o) (i % 1023) None) found ∙ nil_at (part_length elements (i / 1023)) (i % 1023)
+      | inr over ↦ ap (λ v. slice_index_or (references_of u.small.graph v) (i % 1023) None) (get_or_past refs (i / 1023) None over) ∙ get_or_past [] (i % 1023) None (omega arith)
+    ]
+
+root_nils : (own : OwnRegisters) (elements dest : ℕ) (u w : LargeState) (parts : Parts own elements ((elements + 1023 - 1) / 1023) ((elements + 1023 - 1) / 1023) u) → elements ≤ 1046529
+    → w.small.graph ≡ u.small.graph → register_at w.small 1 dest ≡ Some parts.root → elements_at w dest ≡ Some (replicate elements None)
+root_nils own elements dest u w parts most same held =
+    let refs = parts.object.refs in
+    let long = parts.long in
+    let there : object_at w.small.graph parts.root ≡ Some parts.object = ap (λ g. object_at g parts.root) same ∙ parts.there in
+    let references : references_in w dest ≡ Some refs = ap (option_map (λ n. refs_of (object_at w.small.graph n))) held ∙ ap (λ o. Some (refs_of o)) there in
+    let words : words_in w dest ≡ Some (elements ∷ []) = ap (option_map (λ n. values_of (object_at w.small.graph n))) held ∙ ap (λ o. Some (values_of o)) there ∙ ap (λ vs. Some vs) parts.values in
+    let small : min elements 1046529 ≡ elements = omega (arith, most) in
+    let root : root_length w dest ≡ Some elements = ap (λ ws. option_map (λ n. min n 1046529) (slice_get (unwrap_or ws []) 0)) words ∙ ap (λ n. Some n) small in
+    let all : min elements (1023 * length refs) ≡ elements = omega (arith, long) in
+    ap (λ r. option_map (λ vs. elements_of w.small.graph vs r) (references_in w dest)) root ∙ ap (option_map (λ vs. elements_of w.small.graph vs (Some elements))) references
+    ∙ ap (λ g. Some (elements_of g refs (Some elements))) same
+    ∙ ap (λ vs. Some vs) (map_nils (element_in u.small.graph refs) (element_nil own elements ((elements + 1023 - 1) / 1023) u parts) 0 (min elements (1023 * length refs)) ∙ ap (λ n. replicate n None) all)
+
+-- ---- the call
+
+rooted : (x m y : HostHeap) (h j k : List LargeItem) (wanted : NewArray) (own : OwnRegisters) → IsHostOf x h → IsNewArray (registers_in x) wanted → own_in x ≡ Some own
+    → Runs x h (root_steps own wanted.length ++ move_of wanted.dest own.first ∷ []) m j code.Done → Runs m j (own_nil own) y k code.Done
+    → (l : List LargeItem) × IsHostOf y l × (elements_at (large_state l) wanted.dest ≡ Some (replicate wanted.length None))
+rooted x m y h j k wanted own is (small, most) has ran ended =
+    let few = few_registers x h is in
+    let one = own_first x own has in
+    let two = own_second x own has in
+    let (a, b) = own_there x own has in
+    let total : ℕ = (wanted.length + 1023 - 1) / 1023 in
+    let begin : List Asked = new_of own.first total 1 ∷ put_of own.first 0 wanted.length ∷ [] in
+    let turns : List Asked = in_turn (part_steps own wanted.length) total in
+    let (m1, j1, made, moved) = runs_apart x m h j (begin ++ turns) (move_of wanted.dest own.first ∷ []) ran in
+    let (m2, j2, begun, rounds) = runs_apart x m1 h j1 begin turns made in
+    let host2 = runs_host x m2 h j2 begin code.Done is begun in
+    let host1 = runs_host x m1 h j1 (begin ++ turns) code.Done is made in
+    let differ : own.first ≢ own.second = λ e. omega (arith, e, one, two) in
+    let low : own.first < REGISTERS = omega (arith, few, a) in
+    let high : own.second < REGISTERS = omega (arith, few, b) in
+    let parts = part_rounds own wanted.length total differ low high m2 m1 j2 j1 total host2 (omega arith) (root_begun own wanted.length total differ low high x m2 h j2 is begun) rounds in
+    let move = move_last m1 m j1 j wanted.dest own.first host1 moved in
+    let (p, l, before, last) = runs_apart m y j k (nil_of own.first ∷ []) (nil_of own.second ∷ []) ended in
+    let once = nil_last m p j l own.first move.0 before in
+    let twice = nil_last p y l k own.second once.0 last in
+    let u : LargeState = large_state j1 in
+    let w1 : LargeState = record u { small = with_register u.small 1 wanted.dest (register_at u.small 1 own.first) } in
+    let w2 : LargeState = record w1 { small = with_register w1.small 1 own.first None } in
+    let w : LargeState = record w2 { small = with_register w2.small 1 own.second None } in
+    let is_w : large_state k ≡ w = twice.1 ∙ ap (λ (z : LargeState). record z { small = with_register z.small 1 own.second None }) (once.1 ∙ ap (λ (z : LargeState). record z { small = with_register z.small 1 own.first None }) move.1) in
+    let no_first : wanted.dest ≢ own.first = λ e. omega (arith, e, one, small) in
+    let no_second : wanted.dest ≢ own.second = λ e. omega (arith, e, two, small) in
+    let held : register_at w.small 1 wanted.dest ≡ Some parts.root =
+    other_register w2.small own.second wanted.dest None no_second ∙ other_register w1.small own.first wanted.dest None no_first
+    ∙ changed_register u.small wanted.dest (register_at u.small 1 own.first) (all_registers m1.heap j1 host1.heap) (omega (arith, few, small)) ∙ parts.held in
+    (k, twice.0, subst (λ (z : LargeState). elements_at z wanted.dest ≡ Some (replicate wanted.length None)) (sym is_w) (root_nils own wanted.length wanted.dest u w parts most refl held))
+
+pub new_roots_have_nils : NewRootsHaveNils
+new_roots_have_nils x y h wanted is fits large carried =
+    at_own (own_in x) refl (subst (λ b. Carries x y h (if b then Ok (record { steps = new_of wanted.dest wanted.length 0 ∷ []; last = [] }) else parts_plan (own_in x) wanted) code.Done) (lt-leb wanted.length 1023 large) carried)
+  where
+    at_own : (own : Option OwnRegisters) → own_in x ≡ own → Carries x y h (parts_plan own wanted) code.Done → (l : List LargeItem) × IsHostOf y l × (elements_at (large_state l) wanted.dest ≡ Some (replicate wanted.length None))
+    at_own None none (told, same) = absurd (cc)
+    at_own (Some own) there (m, j, k, ran, ended) = rooted x m y h j k wanted own is fits there ran ended

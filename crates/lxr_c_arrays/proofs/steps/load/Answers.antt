@@ -1,0 +1,11 @@
+use Rattle.lxr_c_arrays.specs.Operations.{load_of}
+use Rattle.lxr_c_arrays.proofs.RunLemmas.{ran_one}
+use Rattle.lxr_c_arrays.proofs.steps.load.Goals as goal
+
+pub returns-clause-runs : goal.returns-clause-runs
+returns-clause-runs c = λ h is.
+    let (k, performs) = c.perform.ensures.performs h is in
+    (k, ran_one c.args.heap.now c.perform.new.heap h k (load_of c.args.dest c.args.base c.args.index) c.perform.result performs)
+
+pub returns-clause-same : goal.returns-clause-same
+returns-clause-same c = record { named = c.perform.ensures.registers; all = c.perform.ensures.all }

@@ -1,0 +1,5 @@
+pub mod Running
+pub mod Operations
+pub mod Sides
+pub mod Plans
+pub mod Elements

@@ -1,0 +1,46 @@
+//! What the elements of an array are after a call. The functions do nothing: the contract of each is a law of what the calls do.
+ghost use Rattle.lxr_c_arrays.specs.Elements.{LengthCountsElements, LoadsGiveElements, StoresReachParts, StoresReplaceElements};
+ghost use Rattle.lxr_c_arrays.specs.Elements.{CopiesReplaceElements, FillsReplaceElements, NewElementsAreNil, NewRootsHaveNils};
+
+/// An array is as long as it has elements.
+pub fn length_counts_elements()
+    ensures { LengthCountsElements }
+{}
+
+/// A load that tells success has loaded an element of the array, and changed nothing else that the host may see.
+pub fn loads_give_elements()
+    ensures { LoadsGiveElements }
+{}
+
+/// A store to an array of one object that tells success has replaced the element, and changed nothing else that the host may see.
+pub fn stores_replace_elements()
+    ensures { StoresReplaceElements }
+{}
+
+/// A store to a root that tells success has replaced the element in its part, where the root isn't that part, and changed nothing else that the
+/// host may see.
+pub fn stores_reach_parts()
+    ensures { StoresReachParts }
+{}
+
+/// A call that makes an array of up to 1,023 elements, and tells success, has made it: its elements are nil, and nothing else that the host may see
+/// has changed.
+pub fn new_elements_are_nil()
+    ensures { NewElementsAreNil }
+{}
+
+/// A fill of an array of one object that tells success has filled the elements, and changed nothing else that the host's registers refer to.
+pub fn fills_replace_elements()
+    ensures { FillsReplaceElements }
+{}
+
+/// A copy between arrays of one object each that tells success has copied the elements, also where the ranges overlap, and changed nothing else that
+/// the host's registers refer to.
+pub fn copies_replace_elements()
+    ensures { CopiesReplaceElements }
+{}
+
+/// A call that makes an array of more than 1,023 elements, and tells success, has made so many, which are nil.
+pub fn new_roots_have_nils()
+    ensures { NewRootsHaveNils }
+{}

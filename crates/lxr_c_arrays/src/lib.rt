@@ -1,0 +1,26 @@
+//! Arrays of references of up to 1,046,529 elements, on the heap for one thread behind its handle: made of objects, in one call, with an
+//! element two loads away.
+//!
+//! An array of up to 1,023 elements is an object whose references they are. A longer one is a root, which has a data word, the length, and a
+//! reference to each part: objects of 1,023 elements, the last of what is left. What a call holds on the way stands in two registers of the
+//! library's own, which it leaves nil.
+#![tactic(auto)]
+
+mod checking;
+mod copying;
+mod elements;
+mod filling;
+mod laws;
+mod making;
+mod registers;
+mod side;
+mod steps;
+
+pub use copying::copy;
+pub use elements::{length, load, store};
+pub use filling::fill;
+pub use laws::{
+    length_counts_elements, loads_give_elements, new_elements_are_nil, stores_reach_parts,
+    stores_replace_elements,
+};
+pub use making::new;

@@ -1,0 +1,107 @@
+//! One operation of a call, and what it comes to.
+ghost use Rattle.std.specs.Prelude.{◌≡◌, ◌<◌, [], ◌∷◌};
+ghost use Rattle.lxr_layout.specs.Objects.{FitsShape};
+ghost use Rattle.lxr_c_base.specs.declared.codes.Code.TheVariants.{Done};
+ghost use Rattle.lxr_c_heap.specs.Hosting.{IsServing, all_registers_in};
+ghost use Rattle.lxr_c_arrays.specs.Operations.{load_of, move_of, new_of, nil_of, put_of, store_of};
+ghost use Rattle.lxr_c_arrays.specs.Running.{InTurn, SameRegisters};
+
+use lxr_c_base::Code;
+use lxr_c_heap::HostHeap;
+use lxr_c_many::{Asked, perform};
+use lxr_graph::Op;
+use lxr_large_model::LargeOp;
+use lxr_layout::Shape;
+
+/// Register `dest` gets a new object of this shape.
+#[inline(always)]
+pub(crate) fn make(heap: &mut HostHeap, dest: u8, shape: Shape) -> Code
+    requires serving { IsServing heap.old }
+    requires dest { dest < all_registers_in heap.old }
+    requires fits { FitsShape shape }
+    ensures runs { InTurn heap.old (new_of dest shape.refs shape.values ∷ []) heap.new result }
+    ensures same { SameRegisters heap.old heap.new }
+    ensures serving { IsServing heap.new }
+{
+    perform(heap, Asked::Make(LargeOp::Small(Op::New { dest, shape }))).code
+}
+
+/// Register `dest` gets a reference of what `base` holds.
+#[inline(always)]
+pub(crate) fn load(heap: &mut HostHeap, dest: u8, base: u8, index: u16) -> Code
+    requires serving { IsServing heap.old }
+    requires registers { (dest < all_registers_in heap.old) × (base < all_registers_in heap.old) }
+    ensures runs { InTurn heap.old (load_of dest base index ∷ []) heap.new result }
+    ensures same { SameRegisters heap.old heap.new }
+    ensures serving { IsServing heap.new }
+{
+    perform(
+        heap,
+        Asked::Reply(LargeOp::Small(Op::Load { dest, base, index })),
+    )
+    .code
+}
+
+/// A reference of what `base` holds becomes what `source` holds.
+#[inline(always)]
+pub(crate) fn store(heap: &mut HostHeap, base: u8, index: u16, source: u8) -> Code
+    requires serving { IsServing heap.old }
+    requires registers { (base < all_registers_in heap.old) × (source < all_registers_in heap.old) }
+    ensures runs { InTurn heap.old (store_of base index source ∷ []) heap.new result }
+    ensures same { SameRegisters heap.old heap.new }
+    ensures serving { IsServing heap.new }
+{
+    perform(
+        heap,
+        Asked::Store(LargeOp::Small(Op::Store {
+            base,
+            index,
+            source,
+        })),
+    )
+    .code
+}
+
+/// A data word of what `base` holds becomes `value`.
+#[inline(always)]
+pub(crate) fn put(heap: &mut HostHeap, base: u8, index: u16, value: u64) -> Code
+    requires serving { IsServing heap.old }
+    requires base { base < all_registers_in heap.old }
+    ensures runs { InTurn heap.old (put_of base index value ∷ []) heap.new result }
+    ensures same { SameRegisters heap.old heap.new }
+    ensures serving { IsServing heap.new }
+{
+    perform(
+        heap,
+        Asked::Reply(LargeOp::Small(Op::Put { base, index, value })),
+    )
+    .code
+}
+
+/// Register `dest` gets what `source` holds.
+#[inline(always)]
+pub(crate) fn copy(heap: &mut HostHeap, dest: u8, source: u8) -> Code
+    requires serving { IsServing heap.old }
+    requires registers { (dest < all_registers_in heap.old) × (source < all_registers_in heap.old) }
+    ensures runs { InTurn heap.old (move_of dest source ∷ []) heap.new result }
+    ensures same { SameRegisters heap.old heap.new }
+    ensures serving { IsServing heap.new }
+{
+    perform(
+        heap,
+        Asked::Reply(LargeOp::Small(Op::Move { dest, source })),
+    )
+    .code
+}
+
+/// Register `dest` becomes nil.
+#[inline(always)]
+pub(crate) fn nil(heap: &mut HostHeap, dest: u8)
+    requires serving { IsServing heap.old }
+    requires dest { dest < all_registers_in heap.old }
+    ensures runs { InTurn heap.old (nil_of dest ∷ []) heap.new Done }
+    ensures same { SameRegisters heap.old heap.new }
+    ensures serving { IsServing heap.new }
+{
+    perform(heap, Asked::Reply(LargeOp::Small(Op::Nil { dest })));
+}

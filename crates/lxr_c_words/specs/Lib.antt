@@ -1,0 +1,4 @@
+pub mod Words
+pub mod Looking
+pub mod Writing
+pub mod Making
