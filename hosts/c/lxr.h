@@ -10,8 +10,9 @@
  * where no register holds it. A frame of a call stack is an object, or some of the registers.
  *
  * Each function but lxr_version and lxr_message takes a heap and answers a CODE. LXR_OK is 0. At any other code nothing has changed, no out
- * parameter was written, and the call may be made again; only pauses may have been made, by lxr_new, lxr_new_with and lxr_large_new, which
- * look for room, and by lxr_store, whose log may be full. lxr_apply alone may have done a part of what it was to do, and says how much in `*done`.
+ * parameter was written, and the call may be made again; only pauses may have been made, by calls that make objects, which look for room,
+ * and by those that store, whose log may be full. lxr_apply alone may have done a part of what it was to do, and says how much in `*done`; and
+ * lxr_array_fill and lxr_array_copy, where a host has made a root of parts itself a part.
  * Where several codes would do, the least of them is answered. No number that is passed can do harm: each is looked at.
  *
  * What a host owes: a handle begins as zeros, isn't copied or written to, and is in one call at a time; a pointer that is passed isn't
@@ -48,14 +49,16 @@ typedef struct lxr_heap {
     { 0, 0 }
 
 /* Limits. */
-#define LXR_REGISTERS        16u    /* registers of a heap whose settings don't say how many, and the fewest that they may say */
-#define LXR_MOST_REGISTERS   256u   /* registers of a heap */
-#define LXR_WORLD_REFS       64u    /* references of the world */
-#define LXR_MOST_REFS        1023u  /* references of an object */
-#define LXR_MOST_WORDS       1023u  /* data words of an object */
-#define LXR_MOST_BODY_BLOCKS 128u   /* blocks of a body */
-#define LXR_MOST_BLOCKS      65536u /* blocks of a heap, and blocks for bodies */
-#define LXR_BLOCK_WORDS      4096u  /* words of a block: 32 KB */
+#define LXR_REGISTERS        16u      /* registers of a heap whose settings don't say how many, and the fewest that they may say */
+#define LXR_MOST_REGISTERS   256u     /* registers of a heap */
+#define LXR_WORLD_REFS       64u      /* references of the world */
+#define LXR_MOST_REFS        1023u    /* references of an object */
+#define LXR_MOST_WORDS       1023u    /* data words of an object */
+#define LXR_MOST_BODY_BLOCKS 128u     /* blocks of a body */
+#define LXR_MOST_BLOCKS      65536u   /* blocks of a heap, and blocks for bodies */
+#define LXR_BLOCK_WORDS      4096u    /* words of a block: 32 KB */
+#define LXR_MOST_ELEMENTS    1046529u /* elements of an array: 1,023 parts of 1,023 */
+#define LXR_MOST_LENGTH      524287u  /* words that are made by lxr_words_new: a body of 128 blocks, without the word for its length */
 
 /* What a call answers. */
 typedef uint32_t lxr_code;
@@ -66,7 +69,7 @@ typedef uint32_t lxr_code;
 #define LXR_E_REGISTER 3u /* the heap has no such register, or it stands where it can't */
 #define LXR_E_SIZE     4u /* a number of references, data words, blocks or registers is out of its range, or the size of settings */
 #define LXR_E_NIL      5u /* the base register is nil */
-#define LXR_E_INDEX    6u /* the object has no such reference or data word, or no body with such words */
+#define LXR_E_INDEX    6u /* the object has no such reference, data word or element, or no body with such words */
 #define LXR_E_FULL     7u /* what can be reached leaves no room */
 #define LXR_E_MEMORY   8u /* lxr_open: the machine has no memory for it */
 #define LXR_E_WHAT     9u /* lxr_count: there is no such number; lxr_apply: no such operation */
@@ -99,6 +102,9 @@ typedef uint32_t lxr_code;
 /*
  * What a heap is made of. The first word is the size of it all, so that a program that was compiled with an older, shorter lxr_settings
  * works with a later archive: what it doesn't know is as it was before.
+ *
+ * Where `registers` are at most 254, the heap has two more for the library, by which arrays are gone along. With 255 or 256 of them an array has
+ * at most 1,023 elements, and none is copied.
  */
 typedef struct lxr_settings {
     uint64_t size;        /* sizeof(lxr_settings) */
@@ -314,6 +320,117 @@ lxr_code lxr_large_read(const lxr_heap *heap, uint32_t base, uint32_t index, uin
  * Codes: LXR_E_NO_HEAP, LXR_E_REGISTER, LXR_E_NIL, LXR_E_INDEX. Cost: grows with `count`.
  */
 lxr_code lxr_large_write(lxr_heap *heap, uint32_t base, uint32_t index, const uint64_t *from, size_t count);
+
+/* ---- Arrays ---- */
+
+/*
+ * An array has ELEMENTS: references, 0 to 1,046,529 of them, with indexes from 0 on; how many is fixed when it is made. It is made of
+ * objects as there are anyway. Up to 1,023 elements are the references of one object without data words. More of them are a ROOT, which is an
+ * object with one data word, the length, and a reference to each PART: a part is an object without data words and with 1,023 references, or
+ * the rest of them in the last one. So element i is reference i mod 1,023 of part i / 1,023.
+ *
+ * Any object may be taken for an array, and its shape says which: without data words it has its references for elements, and with some it is
+ * a root of as many elements as its first data word says, or as its references can lead to where these are fewer. A large object has none.
+ * Where an element that a call reads or writes has no place, since its part is nil or has too few references, LXR_E_NIL or LXR_E_INDEX is
+ * answered, by the first such part, and nothing has changed; only where a root is itself a part that is written to, elements before that may
+ * be. Parts are looked at once all numbers fit.
+ *
+ * What a call holds on its way stands in two registers of the library's own behind the host's. They are nil between calls, and no call can
+ * name them. A heap of 255 or 256 registers has no place for them, and no arrays of more than 1,023 elements: there LXR_E_REGISTER is the
+ * answer of lxr_array_new of more, of a call whose base is a root, but for lxr_array_length, and of lxr_array_copy. A pause within such a call
+ * looks at all registers.
+ */
+
+/*
+ * Register `dest` holds a new array of `length` elements, all nil. It is a lxr_new of each of its objects, the root first and then the parts
+ * in order, and so many stores: pauses come between them as before lxr_new. Where there is no room for all of them it is LXR_E_FULL: `dest`
+ * holds what it held, and the next pause that collects reclaims those that were made. More than 1,046,529 elements are LXR_E_SIZE in any heap.
+ * Codes: LXR_E_NO_HEAP, LXR_E_REGISTER, LXR_E_SIZE, LXR_E_FULL. Cost: grows with `length`; and that of pauses, where some are made.
+ */
+lxr_code lxr_array_new(lxr_heap *heap, uint32_t dest, uint32_t length);
+
+/*
+ * `*length` becomes the number of elements of the array in register `base`.
+ * Codes: LXR_E_NO_HEAP, LXR_E_REGISTER, LXR_E_NIL. Cost: constant.
+ */
+lxr_code lxr_array_length(const lxr_heap *heap, uint32_t base, uint32_t *length);
+
+/*
+ * Register `dest` holds what element `index` of the array in register `base` refers to, or is nil where that is nil.
+ * Codes: LXR_E_NO_HEAP, LXR_E_REGISTER, LXR_E_NIL, LXR_E_INDEX. Cost: constant, about that of two lxr_load.
+ */
+lxr_code lxr_array_load(lxr_heap *heap, uint32_t dest, uint32_t base, uint32_t index);
+
+/*
+ * Element `index` of the array in register `base` becomes what register `source` holds, or nil. A pause comes where it does by lxr_store.
+ * Codes: LXR_E_NO_HEAP, LXR_E_REGISTER, LXR_E_NIL, LXR_E_INDEX. Cost: constant, but for that pause.
+ */
+lxr_code lxr_array_store(lxr_heap *heap, uint32_t base, uint32_t index, uint32_t source);
+
+/*
+ * The `count` elements from `first` on of the array in register `base` become what register `source` holds, or nil, one after another; pauses
+ * come between as by lxr_store. All of them are there, or it is LXR_E_INDEX and none is written: so `first` is at most the length, even where
+ * `count` is 0.
+ * Codes: LXR_E_NO_HEAP, LXR_E_REGISTER, LXR_E_NIL, LXR_E_INDEX. Cost: grows with `count`; and that of pauses.
+ */
+lxr_code lxr_array_fill(lxr_heap *heap, uint32_t base, uint32_t first, uint32_t count, uint32_t source);
+
+/*
+ * The `count` elements from `at` on of the array in register `to` become what the elements from `first` on of the array in register `from`
+ * were before, under the same rule. Both registers may hold one array, and the elements may overlap, as those of memmove. Two arrays that share
+ * a part, as a host may have stored it, are copied one element after another: from the last one on where `at` is above `first`. What is
+ * wrong with `to` is told before what is wrong with `from`: first by registers and lengths, and then by parts.
+ * Codes: LXR_E_NO_HEAP, LXR_E_REGISTER, LXR_E_NIL, LXR_E_INDEX. Cost: grows with `count`; and that of pauses.
+ */
+lxr_code lxr_array_copy(lxr_heap *heap, uint32_t to, uint32_t at, uint32_t from, uint32_t first, uint32_t count);
+
+/* ---- Words of any length ---- */
+
+/*
+ * Words of 64 bits, 0 to 524,287 of them, with indexes from 0 on: for a runtime's strings, vectors of bytes and long numbers. How many is
+ * fixed when they are made. Up to 1,023 are the data words of an object without references. More of them are a large object with as few blocks
+ * as hold them and a word before them: word 0 of its body is their number, and word i of them is word i + 1 of the body.
+ *
+ * Any object may be taken for words, and its shape says which: a large one has as many as the first word of its body says, or as its body holds
+ * after that where these are fewer; another one has its data words.
+ */
+
+/*
+ * Register `dest` holds `length` new words, all 0. Pauses come before it as before lxr_new or lxr_large_new.
+ * Codes: LXR_E_NO_HEAP, LXR_E_REGISTER, LXR_E_SIZE, LXR_E_FULL. Cost: as that of lxr_new or lxr_large_new.
+ */
+lxr_code lxr_words_new(lxr_heap *heap, uint32_t dest, uint32_t length);
+
+/*
+ * `*length` becomes the number of the words in register `base`.
+ * Codes: LXR_E_NO_HEAP, LXR_E_REGISTER, LXR_E_NIL. Cost: constant, or as that of lxr_large_get.
+ */
+lxr_code lxr_words_length(const lxr_heap *heap, uint32_t base, uint32_t *length);
+
+/*
+ * `*word` becomes word `index` of those in register `base`.
+ * Codes: LXR_E_NO_HEAP, LXR_E_REGISTER, LXR_E_NIL, LXR_E_INDEX. Cost: as that of lxr_get or lxr_large_get.
+ */
+lxr_code lxr_words_get(const lxr_heap *heap, uint32_t base, uint32_t index, uint64_t *word);
+
+/*
+ * Word `index` of those in register `base` becomes `word`.
+ * Codes: LXR_E_NO_HEAP, LXR_E_REGISTER, LXR_E_NIL, LXR_E_INDEX. Cost: as that of lxr_put or lxr_large_put.
+ */
+lxr_code lxr_words_put(lxr_heap *heap, uint32_t base, uint32_t index, uint64_t word);
+
+/*
+ * The `count` words at `words` become those in register `base` from `first` on. All of them are there, or it is LXR_E_INDEX and none is read:
+ * so `first` is at most the length, even where `count` is 0.
+ * Codes: LXR_E_NO_HEAP, LXR_E_REGISTER, LXR_E_NIL, LXR_E_INDEX. Cost: grows with `count`.
+ */
+lxr_code lxr_words_read(const lxr_heap *heap, uint32_t base, uint32_t first, uint64_t *words, size_t count);
+
+/*
+ * The words in register `base` from `first` on become the `count` words at `words`, under the same rule.
+ * Codes: LXR_E_NO_HEAP, LXR_E_REGISTER, LXR_E_NIL, LXR_E_INDEX. Cost: grows with `count`.
+ */
+lxr_code lxr_words_write(lxr_heap *heap, uint32_t base, uint32_t first, const uint64_t *words, size_t count);
 
 /* ---- Pauses ---- */
 

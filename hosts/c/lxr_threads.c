@@ -34,6 +34,8 @@ enum {
     UNITS = 64, /* units of a helper's work between two looks at whether a pause is wanted */
     APART = 64, /* bytes that keep two mutators' counters off one cache line */
     TOLD = LXR_COUNT_SWEPT + 1,
+    OWN = 2, /* registers of the library's own, behind the host's: nil between calls */
+    PART = LXR_MOST_REFS,
 
     /* Bytes: of a block, of a word, of a header, what objects are rounded up to; and between which LXR_PACE_ROOM is. */
     BLOCK = LXR_BLOCK_WORDS * 8,
@@ -97,7 +99,9 @@ struct lxr_mutator {
     uint32_t granted; /* what `left` and the pauses that it asked for began from */
     uint64_t made;    /* bytes of its objects since `granted` was set .. */
     uint64_t share;   /* .. until it asks for a pause */
-    uint32_t number, registers;
+    uint32_t number;
+    uint32_t registers; /* that the host may name */
+    uint32_t used;      /* of these, the ones from this number on are nil */
     bool collects;      /* after its next operation it asks for a collecting pause */
     uint64_t collected; /* collecting pauses, as its pass left its home */
     bool asked;         /* it has asked for one since, and told nobody yet */
@@ -302,6 +306,9 @@ static lxr_code collect(lxr_mutator *mutator) {
 
 /* ---- Operations ---- */
 
+/* How many registers a mutator has of which the host may name so many: the library's own are behind these, where there is room for them. */
+static uint32_t all_registers(uint32_t registers) { return registers > LXR_MOST_REGISTERS - OWN ? registers : registers + OWN; }
+
 /* What comes of an operation that has answered so: after the pauses that it waits for. LXR_E_HELD: it is to be called again. */
 static lxr_code wait_through(lxr_mutator *mutator, lxr_code code, uint64_t *word) {
     while (code == LXR_E_WAITS || code == LXR_E_HELD) {
@@ -343,10 +350,23 @@ static inline lxr_code refusal(const lxr_mutator *mutator) {
     return mutator->left ? LXR_OK : mutator->stopped;
 }
 
-/* The same of an operation that writes a register: the first keeps the world. */
-static inline lxr_code refusal_of(const lxr_mutator *mutator, uint32_t dest) {
+/* The same of an operation with two of the host's registers, or one twice. */
+static inline lxr_code refusal_of(const lxr_mutator *mutator, uint32_t one, uint32_t other) {
     lxr_code code = refusal(mutator);
+    return code == LXR_OK && (one >= mutator->registers || other >= mutator->registers) ? LXR_E_REGISTER : code;
+}
+
+/* The same of one that writes the first of them: that isn't the world's. */
+static inline lxr_code refusal_to_write(const lxr_mutator *mutator, uint32_t dest, uint32_t other) {
+    lxr_code code = refusal_of(mutator, dest, other);
     return code == LXR_OK && dest == 0 ? LXR_E_REGISTER : code;
+}
+
+/* The same of an operation that may leave an object in a register, be it the library's own. One of the host's is used from then on. */
+static inline lxr_code refusal_to_fill(lxr_mutator *mutator, uint32_t dest) {
+    lxr_code code = refusal(mutator);
+    if (code == LXR_OK && dest >= mutator->used && dest < mutator->registers) mutator->used = dest + 1;
+    return code;
 }
 
 /* Counts an object that the mutator has made; whether it has made its share, and so has no operation left after this one. */
@@ -358,10 +378,12 @@ static inline bool count_made(lxr_mutator *mutator, uint32_t refs, uint32_t word
     return true;
 }
 
-lxr_code lxr_mutator_new(lxr_mutator *mutator, uint32_t dest, uint32_t refs, uint32_t words) {
+/* Each of these is an operation, whose registers may be the library's own. */
+
+static lxr_code make(lxr_mutator *mutator, uint32_t dest, uint32_t refs, uint32_t words) {
     uint64_t word = 0;
     bool counted = false;
-    lxr_code code = refusal_of(mutator, dest);
+    lxr_code code = refusal_to_fill(mutator, dest);
     if (code != LXR_OK) return code;
     do {
         code = lxr_station_new(&mutator->station, dest, refs, words);
@@ -373,16 +395,16 @@ lxr_code lxr_mutator_new(lxr_mutator *mutator, uint32_t dest, uint32_t refs, uin
     return code;
 }
 
-lxr_code lxr_mutator_load(lxr_mutator *mutator, uint32_t dest, uint32_t base, uint32_t index) {
+static inline lxr_code load(lxr_mutator *mutator, uint32_t dest, uint32_t base, uint32_t index) {
     uint64_t word = 0;
-    lxr_code code = refusal_of(mutator, dest);
+    lxr_code code = refusal_to_fill(mutator, dest);
     if (code != LXR_OK) return code;
     do code = lxr_station_load(&mutator->station, dest, base, index);
     while (again(mutator, &code, &word));
     return code;
 }
 
-lxr_code lxr_mutator_store(lxr_mutator *mutator, uint32_t base, uint32_t index, uint32_t source) {
+static inline lxr_code store(lxr_mutator *mutator, uint32_t base, uint32_t index, uint32_t source) {
     uint64_t word = 0;
     lxr_code code = refusal(mutator);
     if (code != LXR_OK) return code;
@@ -391,16 +413,16 @@ lxr_code lxr_mutator_store(lxr_mutator *mutator, uint32_t base, uint32_t index, 
     return code;
 }
 
-lxr_code lxr_mutator_swap(lxr_mutator *mutator, uint32_t dest, uint32_t base, uint32_t index, uint32_t source) {
+static inline lxr_code swap(lxr_mutator *mutator, uint32_t dest, uint32_t base, uint32_t index, uint32_t source) {
     uint64_t word = 0;
-    lxr_code code = refusal_of(mutator, dest);
+    lxr_code code = refusal_to_fill(mutator, dest);
     if (code != LXR_OK) return code;
     do code = lxr_station_swap(&mutator->station, dest, base, index, source);
     while (again(mutator, &code, &word));
     return code;
 }
 
-lxr_code lxr_mutator_get(lxr_mutator *mutator, uint32_t base, uint32_t index, uint64_t *word) {
+static inline lxr_code get(lxr_mutator *mutator, uint32_t base, uint32_t index, uint64_t *word) {
     lxr_code code = refusal(mutator);
     if (code != LXR_OK) return code;
     do code = lxr_station_get(&mutator->station, base, index, word);
@@ -408,7 +430,7 @@ lxr_code lxr_mutator_get(lxr_mutator *mutator, uint32_t base, uint32_t index, ui
     return code;
 }
 
-lxr_code lxr_mutator_put(lxr_mutator *mutator, uint32_t base, uint32_t index, uint64_t word) {
+static inline lxr_code put(lxr_mutator *mutator, uint32_t base, uint32_t index, uint64_t word) {
     uint64_t none = 0;
     lxr_code code = refusal(mutator);
     if (code != LXR_OK) return code;
@@ -417,8 +439,57 @@ lxr_code lxr_mutator_put(lxr_mutator *mutator, uint32_t base, uint32_t index, ui
     return code;
 }
 
-lxr_code lxr_mutator_add(lxr_mutator *mutator, uint32_t base, uint32_t index, uint64_t word, uint64_t *old) {
+static inline lxr_code move(lxr_mutator *mutator, uint32_t dest, uint32_t source) {
+    uint64_t word = 0;
+    lxr_code code = refusal_to_fill(mutator, dest);
+    if (code != LXR_OK) return code;
+    do code = lxr_station_move(&mutator->station, dest, source);
+    while (again(mutator, &code, &word));
+    return code;
+}
+
+static inline lxr_code clear(lxr_mutator *mutator, uint32_t dest) {
+    uint64_t word = 0;
     lxr_code code = refusal(mutator);
+    if (code != LXR_OK) return code;
+    do code = lxr_station_nil(&mutator->station, dest);
+    while (again(mutator, &code, &word));
+    return code;
+}
+
+lxr_code lxr_mutator_new(lxr_mutator *mutator, uint32_t dest, uint32_t refs, uint32_t words) {
+    lxr_code code = refusal_to_write(mutator, dest, dest);
+    return code == LXR_OK ? make(mutator, dest, refs, words) : code;
+}
+
+lxr_code lxr_mutator_load(lxr_mutator *mutator, uint32_t dest, uint32_t base, uint32_t index) {
+    lxr_code code = refusal_to_write(mutator, dest, base);
+    return code == LXR_OK ? load(mutator, dest, base, index) : code;
+}
+
+lxr_code lxr_mutator_store(lxr_mutator *mutator, uint32_t base, uint32_t index, uint32_t source) {
+    lxr_code code = refusal_of(mutator, base, source);
+    return code == LXR_OK ? store(mutator, base, index, source) : code;
+}
+
+lxr_code lxr_mutator_swap(lxr_mutator *mutator, uint32_t dest, uint32_t base, uint32_t index, uint32_t source) {
+    lxr_code code = refusal_to_write(mutator, dest, base);
+    if (code == LXR_OK) code = refusal_of(mutator, source, source);
+    return code == LXR_OK ? swap(mutator, dest, base, index, source) : code;
+}
+
+lxr_code lxr_mutator_get(lxr_mutator *mutator, uint32_t base, uint32_t index, uint64_t *word) {
+    lxr_code code = refusal_of(mutator, base, base);
+    return code == LXR_OK ? get(mutator, base, index, word) : code;
+}
+
+lxr_code lxr_mutator_put(lxr_mutator *mutator, uint32_t base, uint32_t index, uint64_t word) {
+    lxr_code code = refusal_of(mutator, base, base);
+    return code == LXR_OK ? put(mutator, base, index, word) : code;
+}
+
+lxr_code lxr_mutator_add(lxr_mutator *mutator, uint32_t base, uint32_t index, uint64_t word, uint64_t *old) {
+    lxr_code code = refusal_of(mutator, base, base);
     if (code != LXR_OK) return code;
     do code = lxr_station_add(&mutator->station, base, index, word, old);
     while (again(mutator, &code, old));
@@ -428,7 +499,7 @@ lxr_code lxr_mutator_add(lxr_mutator *mutator, uint32_t base, uint32_t index, ui
 lxr_code lxr_mutator_same(lxr_mutator *mutator, uint32_t left, uint32_t right, uint32_t *same) {
     uint32_t flag = 2;
     uint64_t answer = 2;
-    lxr_code code = refusal(mutator);
+    lxr_code code = refusal_of(mutator, left, right);
     if (code != LXR_OK) return code;
     do code = lxr_station_same(&mutator->station, left, right, &flag);
     while (again(mutator, &code, &answer));
@@ -437,28 +508,37 @@ lxr_code lxr_mutator_same(lxr_mutator *mutator, uint32_t left, uint32_t right, u
 }
 
 lxr_code lxr_mutator_move(lxr_mutator *mutator, uint32_t dest, uint32_t source) {
-    uint64_t word = 0;
-    lxr_code code = refusal_of(mutator, dest);
-    if (code != LXR_OK) return code;
-    do code = lxr_station_move(&mutator->station, dest, source);
-    while (again(mutator, &code, &word));
-    return code;
+    lxr_code code = refusal_to_write(mutator, dest, source);
+    return code == LXR_OK ? move(mutator, dest, source) : code;
 }
 
 lxr_code lxr_mutator_nil(lxr_mutator *mutator, uint32_t dest) {
-    uint64_t word = 0;
-    lxr_code code = refusal_of(mutator, dest);
-    if (code != LXR_OK) return code;
-    do code = lxr_station_nil(&mutator->station, dest);
-    while (again(mutator, &code, &word));
+    lxr_code code = refusal_to_write(mutator, dest, dest);
+    return code == LXR_OK ? clear(mutator, dest) : code;
+}
+
+/* Lets go of what the host's registers hold from one on. */
+static lxr_code clear_from(lxr_mutator *mutator, uint32_t first) {
+    lxr_code code = LXR_OK;
+    while (code == LXR_OK && mutator->used > first) {
+        code = clear(mutator, mutator->used - 1);
+        if (code == LXR_OK) mutator->used--;
+    }
+    return code;
+}
+
+/* Lets go of what the library's own hold. */
+static lxr_code clear_own(lxr_mutator *mutator) {
+    lxr_code code = LXR_OK;
+    uint32_t end = all_registers(mutator->registers);
+    for (uint32_t dest = mutator->registers; code == LXR_OK && dest < end; dest++) code = clear(mutator, dest);
     return code;
 }
 
 lxr_code lxr_mutator_registers_in_use(lxr_mutator *mutator, uint32_t count) {
     lxr_code code = refusal(mutator);
     if (code == LXR_OK && (count == 0 || count > mutator->registers)) return LXR_E_REGISTER;
-    for (uint32_t dest = count; code == LXR_OK && dest < mutator->registers; dest++) code = lxr_mutator_nil(mutator, dest);
-    return code;
+    return code == LXR_OK ? clear_from(mutator, count) : code;
 }
 
 lxr_code lxr_mutator_pause(lxr_mutator *mutator) {
@@ -599,6 +679,295 @@ lxr_code lxr_mutator_apply(lxr_mutator *mutator, lxr_operation *operations, size
     return code;
 }
 
+/* ---- Arrays ---- */
+
+/* The refusal of an array call with two of the host's registers: it wants the library's own too. */
+static lxr_code refusal_of_array(const lxr_mutator *mutator, uint32_t one, uint32_t other) {
+    lxr_code code = refusal_of(mutator, one, other);
+    return code == LXR_OK && all_registers(mutator->registers) == mutator->registers ? LXR_E_REGISTER : code;
+}
+
+/* The same of one that writes the first of them. */
+static lxr_code refusal_to_write_by_array(const lxr_mutator *mutator, uint32_t dest, uint32_t other) {
+    lxr_code code = refusal_of_array(mutator, dest, other);
+    return code == LXR_OK && dest == 0 ? LXR_E_REGISTER : code;
+}
+
+/* Ends an array call that comes to this code: the library's own registers are nil again. */
+static lxr_code end_array(lxr_mutator *mutator, lxr_code code) {
+    clear_own(mutator);
+    return code;
+}
+
+/* Makes a part of an array in the second of the library's registers; the root is in the first. */
+static lxr_code make_part(lxr_mutator *mutator, uint32_t number, uint32_t length) {
+    uint32_t root = mutator->registers, rest = length - number * PART;
+    lxr_code code = make(mutator, root + 1, rest < PART ? rest : PART, 0);
+    return code == LXR_OK ? store(mutator, root, number, root + 1) : code;
+}
+
+/* Makes a root and its parts in the library's registers. */
+static lxr_code make_root(lxr_mutator *mutator, uint32_t length) {
+    uint32_t root = mutator->registers, parts = (length - 1) / PART + 1;
+    lxr_code code = make(mutator, root, parts, 1);
+    if (code == LXR_OK) code = put(mutator, root, 0, length);
+    for (uint32_t number = 0; code == LXR_OK && number < parts; number++) code = make_part(mutator, number, length);
+    return code;
+}
+
+lxr_code lxr_mutator_array_new(lxr_mutator *mutator, uint32_t dest, uint32_t length) {
+    lxr_code code = refusal_to_write_by_array(mutator, dest, dest);
+    if (code != LXR_OK) return code;
+    if (length > LXR_MOST_ELEMENTS) return LXR_E_SIZE;
+    if (length <= PART) return make(mutator, dest, length, 0);
+    code = make_root(mutator, length);
+    if (code == LXR_OK) code = move(mutator, dest, mutator->registers);
+    return end_array(mutator, code);
+}
+
+/* An array as a call goes along it: its register, the library's for a part of it, and which part that holds. */
+struct array {
+    uint32_t base, own, part;
+    bool is_root;
+    uint32_t length; /* of a root, as it says */
+};
+
+/* No part. */
+#define NO_PART UINT32_MAX
+
+/* Looks at the array in a register. An object without data words says no length: then it is no root. */
+static lxr_code look_at_array(lxr_mutator *mutator, struct array *array, uint32_t base, uint32_t own) {
+    uint64_t length = 0;
+    lxr_code code = get(mutator, base, 0, &length);
+    *array = (struct array){ .base = base, .own = own, .part = NO_PART, .is_root = code == LXR_OK };
+    array->length = length < LXR_MOST_ELEMENTS ? (uint32_t)length : LXR_MOST_ELEMENTS;
+    return code == LXR_E_INDEX ? LXR_OK : code;
+}
+
+/* Finds the object that has an element: `*base` holds it, and it is its reference `*field`. */
+static lxr_code find_element(lxr_mutator *mutator, struct array *array, uint32_t index, uint32_t *base, uint32_t *field) {
+    uint32_t part = index / PART;
+    *base = array->is_root ? array->own : array->base;
+    *field = array->is_root ? index % PART : index;
+    if (!array->is_root || part == array->part) return LXR_OK;
+    if (index >= array->length) return LXR_E_INDEX;
+    array->part = part;
+    return load(mutator, array->own, array->base, part);
+}
+
+/* Looks at an array and finds an element of it, the part of which the first of the library's registers holds. */
+static lxr_code look_for_element(lxr_mutator *mutator, uint32_t array_base, uint32_t index, uint32_t *base, uint32_t *field) {
+    struct array array;
+    lxr_code code = look_at_array(mutator, &array, array_base, mutator->registers);
+    return code == LXR_OK ? find_element(mutator, &array, index, base, field) : code;
+}
+
+/* Ends a call that found an element there: a part is let go of. */
+static lxr_code leave_element(lxr_mutator *mutator, uint32_t base, lxr_code code) {
+    if (base == mutator->registers) clear(mutator, base);
+    return code;
+}
+
+lxr_code lxr_mutator_array_load(lxr_mutator *mutator, uint32_t dest, uint32_t base, uint32_t index) {
+    uint32_t at = base, field = 0;
+    lxr_code code = refusal_to_write_by_array(mutator, dest, base);
+    if (code != LXR_OK) return code;
+    code = look_for_element(mutator, base, index, &at, &field);
+    if (code == LXR_OK) code = load(mutator, dest, at, field);
+    return leave_element(mutator, at, code);
+}
+
+lxr_code lxr_mutator_array_store(lxr_mutator *mutator, uint32_t base, uint32_t index, uint32_t source) {
+    uint32_t at = base, field = 0;
+    lxr_code code = refusal_of_array(mutator, base, source);
+    if (code != LXR_OK) return code;
+    code = look_for_element(mutator, base, index, &at, &field);
+    if (code == LXR_OK) code = store(mutator, at, field, source);
+    return leave_element(mutator, at, code);
+}
+
+lxr_code lxr_mutator_array_swap(lxr_mutator *mutator, uint32_t dest, uint32_t base, uint32_t index, uint32_t source) {
+    uint32_t at = base, field = 0;
+    lxr_code code = refusal_to_write_by_array(mutator, dest, base);
+    if (code == LXR_OK) code = refusal_of(mutator, source, source);
+    if (code != LXR_OK) return code;
+    code = look_for_element(mutator, base, index, &at, &field);
+    if (code == LXR_OK) code = swap(mutator, dest, at, field, source);
+    return leave_element(mutator, at, code);
+}
+
+/* Whether a field is there is seen by reading it: a reference into a register of the library's, or a data word. */
+typedef lxr_code look_at_field(lxr_mutator *mutator, uint32_t base, uint32_t index);
+
+static lxr_code look_at_ref(lxr_mutator *mutator, uint32_t base, uint32_t index) { return load(mutator, mutator->registers, base, index); }
+
+static lxr_code look_at_word(lxr_mutator *mutator, uint32_t base, uint32_t index) {
+    uint64_t word = 0;
+    return get(mutator, base, index, &word);
+}
+
+/* Counts the fields of an object by halves: some ten looks. */
+static lxr_code count_fields(lxr_mutator *mutator, uint32_t base, uint32_t most, look_at_field *look, uint32_t *count) {
+    uint32_t least = 0;
+    while (least < most) {
+        uint32_t middle = least + (most - least) / 2;
+        lxr_code code = look(mutator, base, middle);
+        if (code != LXR_OK && code != LXR_E_INDEX) return code;
+        if (code == LXR_OK) {
+            least = middle + 1;
+        } else {
+            most = middle;
+        }
+    }
+    *count = least;
+    return LXR_OK;
+}
+
+/* Whether an array has so many elements from one on: by the last of them, or its part. */
+static lxr_code look_for_elements(lxr_mutator *mutator, const struct array *array, uint32_t first, uint32_t count) {
+    uint64_t end = (uint64_t)first + count;
+    if (end == 0) return LXR_OK;
+    if (end > (array->is_root ? array->length : PART)) return LXR_E_INDEX;
+    uint32_t last = (uint32_t)end - 1;
+    return look_at_ref(mutator, array->base, array->is_root ? last / PART : last);
+}
+
+/* Whether a part of a root is there, and has such a reference. */
+static lxr_code look_at_part(lxr_mutator *mutator, const struct array *array, uint32_t part, uint32_t field) {
+    lxr_code code = load(mutator, array->own, array->base, part);
+    return code == LXR_OK ? load(mutator, array->own, array->own, field) : code;
+}
+
+/* Whether so many elements of a root from one on have places: in each part the last of them. */
+static lxr_code look_for_places(lxr_mutator *mutator, const struct array *array, uint32_t first, uint32_t count) {
+    if (!array->is_root || count == 0) return LXR_OK;
+    uint32_t last = first + count - 1;
+    lxr_code code = LXR_OK;
+    for (uint32_t part = first / PART; code == LXR_OK && part <= last / PART; part++)
+        code = look_at_part(mutator, array, part, part == last / PART ? last % PART : PART - 1);
+    return code;
+}
+
+/* How many elements an array has: a root has what it says, or what its references can lead to where these are fewer. */
+static lxr_code find_length(lxr_mutator *mutator, const struct array *array, uint32_t *length) {
+    uint32_t refs = 0;
+    lxr_code code = array->is_root ? look_for_elements(mutator, array, 0, array->length) : LXR_E_INDEX;
+    if (code == LXR_OK) *length = array->length;
+    if (code != LXR_E_INDEX) return code;
+    code = count_fields(mutator, array->base, LXR_MOST_REFS, look_at_ref, &refs);
+    if (code == LXR_OK) *length = array->is_root ? refs * PART : refs;
+    return code;
+}
+
+lxr_code lxr_mutator_array_length(lxr_mutator *mutator, uint32_t base, uint32_t *length) {
+    struct array array;
+    lxr_code code = refusal_of_array(mutator, base, base);
+    if (code != LXR_OK) return code;
+    code = look_at_array(mutator, &array, base, mutator->registers);
+    if (code == LXR_OK) code = find_length(mutator, &array, length);
+    return end_array(mutator, code);
+}
+
+/* Stores into an element. */
+static lxr_code store_element(lxr_mutator *mutator, struct array *array, uint32_t index, uint32_t source) {
+    uint32_t base = 0, field = 0;
+    lxr_code code = find_element(mutator, array, index, &base, &field);
+    return code == LXR_OK ? store(mutator, base, field, source) : code;
+}
+
+lxr_code lxr_mutator_array_fill(lxr_mutator *mutator, uint32_t base, uint32_t first, uint32_t count, uint32_t source) {
+    struct array array;
+    lxr_code code = refusal_of_array(mutator, base, source);
+    if (code != LXR_OK) return code;
+    code = look_at_array(mutator, &array, base, mutator->registers);
+    if (code == LXR_OK) code = look_for_elements(mutator, &array, first, count);
+    if (code == LXR_OK) code = look_for_places(mutator, &array, first, count);
+    for (uint32_t at = 0; code == LXR_OK && at < count; at++) code = store_element(mutator, &array, first + at, source);
+    return end_array(mutator, code);
+}
+
+/* Loads an element into a register of the library's, which may be the one that held the part. */
+static lxr_code load_element(lxr_mutator *mutator, uint32_t dest, struct array *array, uint32_t index) {
+    uint32_t base = 0, field = 0;
+    lxr_code code = find_element(mutator, array, index, &base, &field);
+    if (code == LXR_OK) code = load(mutator, dest, base, field);
+    if (dest == array->own) array->part = NO_PART;
+    return code;
+}
+
+/* What a copy goes along. */
+struct copying {
+    struct array to, from;
+    uint32_t at, first, count;
+};
+
+/*
+ * Looks at both arrays of a copy. The second of the library's registers is for a part of the one that is written to; where that has none it is
+ * for a part of the other, which else shares the first with its elements.
+ */
+static lxr_code look_at_both(lxr_mutator *mutator, struct copying *it, uint32_t to, uint32_t from) {
+    uint32_t own = mutator->registers;
+    lxr_code code = look_at_array(mutator, &it->to, to, own + 1);
+    if (code == LXR_OK) code = look_for_elements(mutator, &it->to, it->at, it->count);
+    if (code == LXR_OK) code = look_at_array(mutator, &it->from, from, it->to.is_root ? own : own + 1);
+    if (code == LXR_OK) code = look_for_elements(mutator, &it->from, it->first, it->count);
+    if (code == LXR_OK) code = look_for_places(mutator, &it->to, it->at, it->count);
+    return code == LXR_OK ? look_for_places(mutator, &it->from, it->first, it->count) : code;
+}
+
+/* Copies an element by the first of the library's registers. */
+static lxr_code copy_element(lxr_mutator *mutator, struct copying *it, uint32_t number) {
+    lxr_code code = load_element(mutator, mutator->registers, &it->from, it->first + number);
+    return code == LXR_OK ? store_element(mutator, &it->to, it->at + number, mutator->registers) : code;
+}
+
+/* Elements that move up are copied from the last one on, so that each is read before it is written. */
+lxr_code lxr_mutator_array_copy(lxr_mutator *mutator, uint32_t to, uint32_t at, uint32_t from, uint32_t first, uint32_t count) {
+    struct copying it = { .at = at, .first = first, .count = count };
+    lxr_code code = refusal_of_array(mutator, to, from);
+    if (code != LXR_OK) return code;
+    code = look_at_both(mutator, &it, to, from);
+    for (uint32_t done = 0; code == LXR_OK && done < count; done++) code = copy_element(mutator, &it, first < at ? count - 1 - done : done);
+    return end_array(mutator, code);
+}
+
+/* ---- Words ---- */
+
+lxr_code lxr_mutator_words_new(lxr_mutator *mutator, uint32_t dest, uint32_t length) { return lxr_mutator_new(mutator, dest, 0, length); }
+
+lxr_code lxr_mutator_words_length(lxr_mutator *mutator, uint32_t base, uint32_t *length) {
+    lxr_code code = refusal_of(mutator, base, base);
+    return code == LXR_OK ? count_fields(mutator, base, LXR_MOST_WORDS, look_at_word, length) : code;
+}
+
+lxr_code lxr_mutator_words_get(lxr_mutator *mutator, uint32_t base, uint32_t index, uint64_t *word) {
+    return lxr_mutator_get(mutator, base, index, word);
+}
+
+lxr_code lxr_mutator_words_put(lxr_mutator *mutator, uint32_t base, uint32_t index, uint64_t word) {
+    return lxr_mutator_put(mutator, base, index, word);
+}
+
+/* Whether an object has so many data words from one on: by the last of them. */
+static lxr_code look_for_words(lxr_mutator *mutator, uint32_t base, uint32_t first, size_t count) {
+    lxr_code code = refusal_of(mutator, base, base);
+    if (code != LXR_OK) return code;
+    bool may_fit = first <= LXR_MOST_WORDS && count <= LXR_MOST_WORDS - first;
+    uint32_t end = may_fit ? first + (uint32_t)count : UINT32_MAX;
+    code = look_at_word(mutator, base, end ? end - 1 : 0);
+    return code == LXR_E_INDEX && end == 0 ? LXR_OK : code;
+}
+
+lxr_code lxr_mutator_words_read(lxr_mutator *mutator, uint32_t base, uint32_t first, uint64_t *words, size_t count) {
+    lxr_code code = look_for_words(mutator, base, first, count);
+    return code == LXR_OK ? lxr_mutator_get_many(mutator, base, first, words, count) : code;
+}
+
+lxr_code lxr_mutator_words_write(lxr_mutator *mutator, uint32_t base, uint32_t first, const uint64_t *words, size_t count) {
+    lxr_code code = look_for_words(mutator, base, first, count);
+    return code == LXR_OK ? lxr_mutator_put_many(mutator, base, first, words, count) : code;
+}
+
 /* ---- Mutators ---- */
 
 lxr_code lxr_mutator_rest(lxr_mutator *mutator) {
@@ -636,6 +1005,7 @@ lxr_code lxr_mutator_enter(lxr_shared_heap *heap, lxr_mutator **handle) {
     if (!mutator) return LXR_E_MEMORY;
     mutator->heap = heap;
     mutator->registers = heap->settings.registers;
+    mutator->used = 1;
     pthread_mutex_lock(&heap->lock);
     wait_for_pause(heap);
     lxr_code code = take_number(mutator);
@@ -654,7 +1024,7 @@ lxr_code lxr_mutator_leave(lxr_mutator **handle) {
     if (!mutator) return LXR_E_NO_HEAP;
     lxr_shared_heap *heap = mutator->heap;
     if (!mutator->left && mutator->stopped != LXR_E_LOST) go_out(mutator);
-    bool spoiled = mutator->left && lxr_mutator_registers_in_use(mutator, 1) != LXR_OK;
+    bool spoiled = mutator->left && (clear_from(mutator, 1) != LXR_OK || clear_own(mutator) != LXR_OK);
     bool out = mutator->left != 0;
     bring_home(mutator);
     place_of(mutator)->spoiled = spoiled;
@@ -755,7 +1125,8 @@ static bool read_settings(lxr_shared_heap_settings *settings, const lxr_shared_h
 
 static bool are_settings(const lxr_shared_heap_settings *settings) {
     return settings->mutators >= 1 && settings->mutators <= LXR_MOST_MUTATORS && settings->helpers <= LXR_MOST_HELPERS &&
-           settings->every >= 1 && settings->every <= LXR_MOST_EVERY;
+           settings->every >= 1 && settings->every <= LXR_MOST_EVERY && settings->registers >= LXR_REGISTERS &&
+           settings->registers <= LXR_MOST_REGISTERS;
 }
 
 /* The pace in bytes that settings ask for. */
@@ -780,7 +1151,7 @@ static lxr_code open_passes(lxr_shared_heap *heap) {
         .trace = asked->trace,
         .within = asked->within,
         .evacuate = asked->evacuate,
-        .registers = asked->registers,
+        .registers = all_registers(asked->registers),
     };
     lxr_code code = lxr_passes_open(&heap->passes, &settings);
     if (code == LXR_OK) code = lxr_passes_resume(&heap->passes);

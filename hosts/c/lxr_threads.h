@@ -75,7 +75,8 @@ typedef struct lxr_pause_times {
  * heap of up to 1,024 blocks the first ones, and in a larger one those with the fewest. What lives in them as the trace ends is copied
  * elsewhere by that pause, which is the longer for it, and they are whole again. By 0 none is, and what is old stays where it is.
  *
- * `registers` is how many registers each mutator has. What a pause takes grows with those in use alone (lxr_mutator_registers_in_use).
+ * `registers` is how many registers each mutator has. What a pause takes grows with those in use alone (lxr_mutator_registers_in_use). Where
+ * they are at most 254, each mutator has two more for the library, by which arrays are gone along.
  *
  * Settings of version 0.2, which end before `evacuate`, are taken: then that is an eighth of the blocks, and there are sixteen registers.
  */
@@ -148,7 +149,8 @@ lxr_code lxr_mutator_enter(lxr_shared_heap *heap, lxr_mutator **mutator);
 /*
  * Leaves the heap: the mutator lets go of what its registers hold, its place is free for another one, and the handle is null. So it is too
  * where the mutator rests, or where the heap is lost.
- * Code: LXR_E_NO_HEAP, where the handle is null. Cost: that of a lxr_mutator_nil for each register but the first, and a lock.
+ * Code: LXR_E_NO_HEAP, where the handle is null. Cost: that of a lxr_mutator_nil for each register but the first, up to the last that it has
+ * used, and a lock.
  */
 lxr_code lxr_mutator_leave(lxr_mutator **mutator);
 
@@ -249,7 +251,7 @@ lxr_code lxr_mutator_nil(lxr_mutator *mutator, uint32_t dest);
  * the registers in use: it looks at all of a mutator's up to the last that holds an object, or did at the last pause. So a mutator that has
  * 256 and uses 20 makes it look at 20.
  * Code: LXR_E_REGISTER, where `count` is 0 or more than the mutator has. Cost: that of a lxr_mutator_nil for each register behind the first
- * `count`.
+ * `count`, up to the last that it has used since it entered or last called this.
  */
 lxr_code lxr_mutator_registers_in_use(lxr_mutator *mutator, uint32_t count);
 
@@ -305,6 +307,116 @@ lxr_code lxr_mutator_store_many(lxr_mutator *mutator, uint32_t base, uint32_t fi
  * Codes: LXR_E_REGISTER, LXR_E_SIZE, LXR_E_NIL, LXR_E_INDEX, LXR_E_FULL, LXR_E_WHAT.
  */
 lxr_code lxr_mutator_apply(lxr_mutator *mutator, lxr_operation *operations, size_t count, size_t *done);
+
+/* ---- Arrays ---- */
+
+/*
+ * Arrays are those of lxr.h, with the same shapes: up to 1,023 elements are the references of one object without data words, and more of them
+ * are a root, whose data word is the length, and parts of 1,023. Any object may be taken for one, as there.
+ *
+ * Each of these makes so many operations, in order, as those above: pauses may come between two of them, and other threads may see what is
+ * done so far, and write meanwhile. All numbers that are passed are looked at first, by the array's length and its parts too, and where one
+ * doesn't fit nothing is written. Later an operation stops them only where a root was written to meanwhile, by another thread or since it is
+ * itself a part that is written to, or for LXR_E_USED_UP and LXR_E_LOST: then its code is answered, and those before it are done.
+ *
+ * What they hold on their way stands in two registers of the library's own, behind the mutator's: they are nil between calls, and no call can
+ * name them. A heap of 255 or 256 registers has no place for them: there each of these calls answers LXR_E_REGISTER. A pause that comes
+ * within such a call looks at all registers of the mutator.
+ */
+
+/*
+ * Register `dest` holds a new array of `length` elements, 0 to 1,046,529, all nil. It is a lxr_mutator_new of each of its objects, the root
+ * first and then the parts in order, and so many stores. No other thread can reach any of them before the array is stored elsewhere. Where
+ * there is no room for all of them it is LXR_E_FULL: `dest` holds what it held, and a pause that collects reclaims those that were made.
+ * Codes: LXR_E_REGISTER, LXR_E_SIZE, LXR_E_FULL. Cost: grows with `length`.
+ */
+lxr_code lxr_mutator_array_new(lxr_mutator *mutator, uint32_t dest, uint32_t length);
+
+/*
+ * `*length` becomes the number of elements of the array in register `base`.
+ * Codes: LXR_E_REGISTER, LXR_E_NIL. Cost: four operations of a root, and some thirteen of another array.
+ */
+lxr_code lxr_mutator_array_length(lxr_mutator *mutator, uint32_t base, uint32_t *length);
+
+/*
+ * Register `dest` holds what element `index` of the array in register `base` refers to, or is nil where that is nil: by a load that is in one
+ * order for all threads with the stores and swaps of that element.
+ * Codes: LXR_E_REGISTER, LXR_E_NIL, LXR_E_INDEX. Cost: two operations, and four of a root.
+ */
+lxr_code lxr_mutator_array_load(lxr_mutator *mutator, uint32_t dest, uint32_t base, uint32_t index);
+
+/*
+ * Element `index` of the array in register `base` becomes what register `source` holds, or nil.
+ * Codes: LXR_E_REGISTER, LXR_E_NIL, LXR_E_INDEX. Cost: as that of lxr_mutator_array_load.
+ */
+lxr_code lxr_mutator_array_store(lxr_mutator *mutator, uint32_t base, uint32_t index, uint32_t source);
+
+/*
+ * Element `index` of the array in register `base` becomes what register `source` holds, or nil, and register `dest` holds what it was, in one
+ * step.
+ * Codes: LXR_E_REGISTER, LXR_E_NIL, LXR_E_INDEX. Cost: as that of lxr_mutator_array_load.
+ */
+lxr_code lxr_mutator_array_swap(lxr_mutator *mutator, uint32_t dest, uint32_t base, uint32_t index, uint32_t source);
+
+/*
+ * The `count` elements from `first` on of the array in register `base` become what register `source` holds, or nil: a store of each, from the
+ * first on. Other threads may see some of them written and others not.
+ * Codes: LXR_E_REGISTER, LXR_E_NIL, LXR_E_INDEX. Cost: grows with `count`; one operation for each element.
+ */
+lxr_code lxr_mutator_array_fill(lxr_mutator *mutator, uint32_t base, uint32_t first, uint32_t count, uint32_t source);
+
+/*
+ * The `count` elements from `at` on of the array in register `to` become what those from `first` on of the array in register `from` were:
+ * a load and a store of each, one element after another; from the last on where `at` is above `first`, so that elements of one array may
+ * overlap, as those of memmove. Other threads may see some of them copied and others not; an element that another thread writes meanwhile is
+ * copied as it was or as it is then; and what one has written to an element of `to` is lost where that is copied over later.
+ * Codes: LXR_E_REGISTER, LXR_E_NIL, LXR_E_INDEX. Cost: grows with `count`; two operations for each element, and three between two roots.
+ */
+lxr_code lxr_mutator_array_copy(lxr_mutator *mutator, uint32_t to, uint32_t at, uint32_t from, uint32_t first, uint32_t count);
+
+/* ---- Words ---- */
+
+/*
+ * Words as those of lxr.h, but up to 1,023 alone, since a shared heap has no large objects: they are the data words of an object without
+ * references. Any object may be taken for words, and has its data words. Where one of several isn't there none is read or written; else they
+ * are so many operations, as above.
+ */
+
+/*
+ * Register `dest` holds `length` new words, 0 to 1,023, all 0.
+ * Codes: LXR_E_REGISTER, LXR_E_SIZE, LXR_E_FULL. Cost: as that of lxr_mutator_new.
+ */
+lxr_code lxr_mutator_words_new(lxr_mutator *mutator, uint32_t dest, uint32_t length);
+
+/*
+ * `*length` becomes the number of the words in register `base`.
+ * Codes: LXR_E_REGISTER, LXR_E_NIL. Cost: some ten operations.
+ */
+lxr_code lxr_mutator_words_length(lxr_mutator *mutator, uint32_t base, uint32_t *length);
+
+/*
+ * `*word` becomes word `index` of those in register `base`.
+ * Codes: LXR_E_REGISTER, LXR_E_NIL, LXR_E_INDEX. Cost: constant.
+ */
+lxr_code lxr_mutator_words_get(lxr_mutator *mutator, uint32_t base, uint32_t index, uint64_t *word);
+
+/*
+ * Word `index` of those in register `base` becomes `word`.
+ * Codes: LXR_E_REGISTER, LXR_E_NIL, LXR_E_INDEX. Cost: constant.
+ */
+lxr_code lxr_mutator_words_put(lxr_mutator *mutator, uint32_t base, uint32_t index, uint64_t word);
+
+/*
+ * The `count` words at `words` become those in register `base` from `first` on.
+ * Codes: LXR_E_REGISTER, LXR_E_NIL, LXR_E_INDEX. Cost: grows with `count`.
+ */
+lxr_code lxr_mutator_words_read(lxr_mutator *mutator, uint32_t base, uint32_t first, uint64_t *words, size_t count);
+
+/*
+ * The words in register `base` from `first` on become the `count` words at `words`.
+ * Codes: LXR_E_REGISTER, LXR_E_NIL, LXR_E_INDEX. Cost: grows with `count`.
+ */
+lxr_code lxr_mutator_words_write(lxr_mutator *mutator, uint32_t base, uint32_t first, const uint64_t *words, size_t count);
 
 /* ---- Pauses ---- */
 

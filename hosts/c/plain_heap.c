@@ -32,9 +32,9 @@ struct heap {
 
 /* ---- Objects ---- */
 
-static struct object **refs_of(struct object *it) { return (struct object **)(void *)it->fields; }
+static struct object **refs_of(const struct object *it) { return (struct object **)(uintptr_t)it->fields; }
 
-static uint64_t *words_of(struct object *it) { return it->fields + it->refs; }
+static uint64_t *words_of(const struct object *it) { return (uint64_t *)(uintptr_t)it->fields + it->refs; }
 
 static struct object *make(struct heap *heap, uint32_t refs, uint32_t words, uint32_t blocks) {
     size_t fields = (size_t)refs + words + (size_t)blocks * LXR_BLOCK_WORDS;
@@ -149,14 +149,77 @@ static lxr_code find_body(const lxr_heap *handle, uint32_t base, uint32_t index,
     return LXR_OK;
 }
 
-/* Makes an object and lets a register hold it. */
-static lxr_code hold_new(struct heap *heap, uint32_t dest, uint32_t refs, uint32_t words, uint32_t blocks) {
+/* Makes an object for the host. */
+static struct object *make_counted(struct heap *heap, uint32_t refs, uint32_t words, uint32_t blocks) {
     struct object *made = make(heap, refs, words, blocks);
-    if (!made) return LXR_E_FULL;
+    if (!made) return NULL;
     heap->made++;
     heap->live++;
+    return made;
+}
+
+/* Makes an object and lets a register hold it. */
+static lxr_code hold_new(struct heap *heap, uint32_t dest, uint32_t refs, uint32_t words, uint32_t blocks) {
+    struct object *made = make_counted(heap, refs, words, blocks);
+    if (!made) return LXR_E_FULL;
     heap->registers[dest] = made;
     return LXR_OK;
+}
+
+/* ---- Arrays and words ---- */
+
+static uint32_t least(uint64_t left, uint32_t right) { return left < right ? (uint32_t)left : right; }
+
+/* How many elements an object has as an array, and how many words as words. */
+static uint32_t elements_of(const struct object *it) { return it->words ? least(words_of(it)[0], it->refs * LXR_MOST_REFS) : it->refs; }
+
+static uint32_t length_of(const struct object *it) {
+    return it->blocks ? least(words_of(it)[0], it->blocks * LXR_BLOCK_WORDS - 1) : it->words;
+}
+
+/* Which reference of the object that has it an element is. */
+static uint32_t place_of(const struct object *it, uint32_t index) { return it->words ? index % LXR_MOST_REFS : index; }
+
+/* Finds the object that has an element: a part of a root, or the array itself. */
+static struct object *find_part(struct object *it, uint32_t index) { return it->words ? refs_of(it)[index / LXR_MOST_REFS] : it; }
+
+/* Finds the place of an element in the object that has it. */
+static lxr_code find_place(const struct object *part, uint32_t place, struct object ***found) {
+    if (!part) return LXR_E_NIL;
+    if (place >= part->refs) return LXR_E_INDEX;
+    *found = refs_of(part) + place;
+    return LXR_OK;
+}
+
+/* Finds the place of an element. */
+static lxr_code find_element(struct object *it, uint32_t index, struct object ***found) {
+    return index < elements_of(it) ? find_place(find_part(it, index), place_of(it, index), found) : LXR_E_INDEX;
+}
+
+/* Whether so many elements are there. */
+static lxr_code are_elements(const struct object *it, uint32_t first, uint32_t count) {
+    return are_fields(first, count, elements_of(it)) ? LXR_OK : LXR_E_INDEX;
+}
+
+/* Whether so many elements have places. */
+static lxr_code have_places(struct object *it, uint32_t first, uint32_t count) {
+    struct object **element = NULL;
+    lxr_code code = LXR_OK;
+    for (uint32_t at = 0; code == LXR_OK && at < count; at++) code = find_element(it, first + at, &element);
+    return code;
+}
+
+/* Makes a root and its parts; null where there is no memory for all of them. */
+static struct object *make_root(struct heap *heap, uint32_t length) {
+    uint32_t parts = (length - 1) / LXR_MOST_REFS + 1;
+    struct object *root = make_counted(heap, parts, 1, 0);
+    for (uint32_t at = 0; root && at < parts; at++) {
+        struct object *part = make_counted(heap, least(length - at * LXR_MOST_REFS, LXR_MOST_REFS), 0, 0);
+        refs_of(root)[at] = part;
+        if (!part) return NULL;
+    }
+    if (root) words_of(root)[0] = length;
+    return root;
 }
 
 void plain_each_reachable(lxr_heap *handle, each_object *each, void *with) {
@@ -354,6 +417,168 @@ lxr_code lxr_large_write(lxr_heap *handle, uint32_t base, uint32_t index, const 
     uint64_t *found = NULL;
     lxr_code code = find_body(handle, base, index, count, &found);
     if (code == LXR_OK && count) memcpy(found, from, count * sizeof *from);
+    return code;
+}
+
+/* Whether the two registers behind the host's fit, by which the archive follows a root. */
+static bool has_own_registers(const struct heap *heap) { return heap->many <= LXR_MOST_REGISTERS - 2; }
+
+lxr_code lxr_array_new(lxr_heap *handle, uint32_t dest, uint32_t length) {
+    struct heap *heap = NULL;
+    lxr_code code = find_registers(handle, dest, dest, &heap);
+    if (code != LXR_OK) return code;
+    if (length > LXR_MOST_ELEMENTS) return LXR_E_SIZE;
+    if (length <= LXR_MOST_REFS) return hold_new(heap, dest, length, 0, 0);
+    if (!has_own_registers(heap)) return LXR_E_REGISTER;
+    struct object *root = make_root(heap, length);
+    if (!root) return LXR_E_FULL;
+    heap->registers[dest] = root;
+    return LXR_OK;
+}
+
+lxr_code lxr_array_length(const lxr_heap *handle, uint32_t base, uint32_t *length) {
+    struct object *it = NULL;
+    lxr_code code = find_base(handle, base, &it);
+    if (code == LXR_OK) *length = elements_of(it);
+    return code;
+}
+
+/* Finds the array in a register, of a call that has another register too. */
+static lxr_code find_array(const lxr_heap *handle, uint32_t base, uint32_t other, struct object **found) {
+    struct heap *heap = NULL;
+    lxr_code code = find_registers(handle, base, other, &heap);
+    if (code == LXR_OK) code = find_base(handle, base, found);
+    if (code != LXR_OK) return code;
+    return (*found)->words && !has_own_registers(heap) ? LXR_E_REGISTER : LXR_OK;
+}
+
+lxr_code lxr_array_load(lxr_heap *handle, uint32_t dest, uint32_t base, uint32_t index) {
+    struct object *it = NULL, **element = NULL;
+    lxr_code code = find_array(handle, base, dest, &it);
+    if (code == LXR_OK) code = find_element(it, index, &element);
+    if (code == LXR_OK) heap_of(handle)->registers[dest] = *element;
+    return code;
+}
+
+lxr_code lxr_array_store(lxr_heap *handle, uint32_t base, uint32_t index, uint32_t source) {
+    struct object *it = NULL, **element = NULL;
+    lxr_code code = find_array(handle, base, source, &it);
+    if (code == LXR_OK) code = find_element(it, index, &element);
+    if (code == LXR_OK) *element = heap_of(handle)->registers[source];
+    return code;
+}
+
+/* An array that is written to along its elements, and the part at hand: it is found anew at each border alone, so a root may be a part of itself. */
+struct written {
+    struct object *it, *part;
+    uint32_t border; /* the place of a part that is met first */
+};
+
+/* Writes an element; the first one finds its part whatever its place. */
+static lxr_code write_element(struct written *written, bool first, uint32_t index, struct object *source) {
+    struct object **element = NULL;
+    uint32_t place = place_of(written->it, index);
+    if (first || place == written->border) written->part = find_part(written->it, index);
+    lxr_code code = find_place(written->part, place, &element);
+    if (code == LXR_OK) *element = source;
+    return code;
+}
+
+lxr_code lxr_array_fill(lxr_heap *handle, uint32_t base, uint32_t first, uint32_t count, uint32_t source) {
+    struct written to = { NULL, NULL, 0 };
+    lxr_code code = find_array(handle, base, source, &to.it);
+    if (code == LXR_OK) code = are_elements(to.it, first, count);
+    if (code == LXR_OK) code = have_places(to.it, first, count);
+    for (uint32_t at = 0; code == LXR_OK && at < count; at++)
+        code = write_element(&to, at == 0, first + at, heap_of(handle)->registers[source]);
+    return code;
+}
+
+/* Finds the arrays of a copy, which takes the registers behind the host's whatever they are. */
+static lxr_code find_both(const lxr_heap *handle, uint32_t to, uint32_t from, struct object **into, struct object **out) {
+    struct heap *heap = NULL;
+    lxr_code code = find_registers(handle, to, from, &heap);
+    if (code == LXR_OK && !has_own_registers(heap)) return LXR_E_REGISTER;
+    *into = code == LXR_OK ? heap->registers[to] : NULL;
+    *out = code == LXR_OK ? heap->registers[from] : NULL;
+    return code;
+}
+
+/* Whether elements are there, of what a register holds. */
+static lxr_code has_elements(const struct object *it, uint32_t first, uint32_t count) {
+    return it ? are_elements(it, first, count) : LXR_E_NIL;
+}
+
+/* Copies an element; from the end on where elements move up. */
+static lxr_code copy_element(struct written *to, uint32_t at, struct object *from, uint32_t index, bool first) {
+    struct object **read = NULL;
+    lxr_code code = find_element(from, index, &read);
+    return code == LXR_OK ? write_element(to, first, at, *read) : code;
+}
+
+lxr_code lxr_array_copy(lxr_heap *handle, uint32_t to, uint32_t at, uint32_t from, uint32_t first, uint32_t count) {
+    bool up = first < at;
+    struct object *out = NULL;
+    struct written into = { NULL, NULL, up ? LXR_MOST_REFS - 1 : 0 };
+    lxr_code code = find_both(handle, to, from, &into.it, &out);
+    if (code == LXR_OK) code = has_elements(into.it, at, count);
+    if (code == LXR_OK) code = has_elements(out, first, count);
+    if (code == LXR_OK) code = have_places(into.it, at, count);
+    if (code == LXR_OK) code = have_places(out, first, count);
+    for (uint32_t done = 0; code == LXR_OK && done < count; done++) {
+        uint32_t next = up ? count - 1 - done : done;
+        code = copy_element(&into, at + next, out, first + next, done == 0);
+    }
+    return code;
+}
+
+lxr_code lxr_words_new(lxr_heap *handle, uint32_t dest, uint32_t length) {
+    struct heap *heap = NULL;
+    lxr_code code = find_registers(handle, dest, dest, &heap);
+    if (code != LXR_OK) return code;
+    if (length > LXR_MOST_LENGTH) return LXR_E_SIZE;
+    if (length <= LXR_MOST_WORDS) return hold_new(heap, dest, 0, length, 0);
+    code = hold_new(heap, dest, 0, 0, length / LXR_BLOCK_WORDS + 1);
+    if (code == LXR_OK) words_of(heap->registers[dest])[0] = length;
+    return code;
+}
+
+lxr_code lxr_words_length(const lxr_heap *handle, uint32_t base, uint32_t *length) {
+    struct object *it = NULL;
+    lxr_code code = find_base(handle, base, &it);
+    if (code == LXR_OK) *length = length_of(it);
+    return code;
+}
+
+/* Finds so many of the words in a register. */
+static lxr_code find_any_words(const lxr_heap *handle, uint32_t base, uint32_t first, size_t count, uint64_t **found) {
+    struct object *it = NULL;
+    lxr_code code = find_base(handle, base, &it);
+    if (code != LXR_OK) return code;
+    if (!are_fields(first, count, length_of(it))) return LXR_E_INDEX;
+    *found = words_of(it) + (it->blocks ? 1 : 0) + first;
+    return LXR_OK;
+}
+
+lxr_code lxr_words_get(const lxr_heap *handle, uint32_t base, uint32_t index, uint64_t *word) {
+    return lxr_words_read(handle, base, index, word, 1);
+}
+
+lxr_code lxr_words_put(lxr_heap *handle, uint32_t base, uint32_t index, uint64_t word) {
+    return lxr_words_write(handle, base, index, &word, 1);
+}
+
+lxr_code lxr_words_read(const lxr_heap *handle, uint32_t base, uint32_t first, uint64_t *words, size_t count) {
+    uint64_t *found = NULL;
+    lxr_code code = find_any_words(handle, base, first, count, &found);
+    if (code == LXR_OK && count) memcpy(words, found, count * sizeof *words);
+    return code;
+}
+
+lxr_code lxr_words_write(lxr_heap *handle, uint32_t base, uint32_t first, const uint64_t *words, size_t count) {
+    uint64_t *found = NULL;
+    lxr_code code = find_any_words(handle, base, first, count, &found);
+    if (code == LXR_OK && count) memcpy(found, words, count * sizeof *words);
     return code;
 }
 

@@ -10,6 +10,12 @@
 //     }
 //     std::cout << list.load(0).get(0);        // 8
 //
+//     lxr::array table = heap.make_array(100000);   // so many nil elements
+//     table.store(7, list);
+//     for (const lxr::root& element : table) ..     // each takes a register while it is looked at
+//     lxr::words text = heap.make_words(3);
+//     text.write(0, {1, 2, 3});
+//
 // A `heap` owns all its objects; it is moved and never copied. A `root` holds an object, or is nil: it takes one of the heap's registers
 // for as long as it lives, and lets go of it then. Objects that no root leads to are reclaimed. Of a heap's registers, 16 to 256 as its
 // settings say, all but two are for roots, since register 0 is kept for the world and register 15 is always nil; so what has more objects
@@ -247,9 +253,33 @@ struct state {
         return lxr_store_many(&handle, base, first, registers.numbers.data(), registers.count);
     }
     lxr_code apply(lxr_operation* operations, std::size_t count, std::size_t* done) { return lxr_apply(&handle, operations, count, done); }
+    lxr_code array_length(std::uint32_t base, std::uint32_t* length) const { return lxr_array_length(&handle, base, length); }
+    lxr_code array_load(std::uint32_t dest, std::uint32_t base, std::uint32_t index) { return lxr_array_load(&handle, dest, base, index); }
+    lxr_code array_store(std::uint32_t base, std::uint32_t index, std::uint32_t source) {
+        return lxr_array_store(&handle, base, index, source);
+    }
+    lxr_code array_fill(std::uint32_t base, std::uint32_t first, std::uint32_t count, std::uint32_t source) {
+        return lxr_array_fill(&handle, base, first, count, source);
+    }
+    lxr_code array_copy(std::uint32_t to, std::uint32_t at, std::uint32_t from, std::uint32_t first, std::uint32_t count) {
+        return lxr_array_copy(&handle, to, at, from, first, count);
+    }
+    lxr_code words_length(std::uint32_t base, std::uint32_t* length) const { return lxr_words_length(&handle, base, length); }
+    lxr_code words_get(std::uint32_t base, std::uint32_t index, std::uint64_t* word) const {
+        return lxr_words_get(&handle, base, index, word);
+    }
+    lxr_code words_put(std::uint32_t base, std::uint32_t index, std::uint64_t word) { return lxr_words_put(&handle, base, index, word); }
+    lxr_code words_read(std::uint32_t base, std::uint32_t first, std::uint64_t* words, std::size_t count) const {
+        return lxr_words_read(&handle, base, first, words, count);
+    }
+    lxr_code words_write(std::uint32_t base, std::uint32_t first, const word_list& words) {
+        return lxr_words_write(&handle, base, first, words.data(), words.size());
+    }
 };
 
 template <typename Batch, typename Root, typename State> class operations;
+template <typename Root, typename State> class sequence;
+template <typename Root, typename State> class elements;
 
 /// What a root of a heap and a local of a mutator do alike: holds an object, or is nil. `State` has the registers, and the calls on them.
 template <typename Root, typename State> class holder {
@@ -379,6 +409,8 @@ private:
     friend class lxr::heap;
     friend class lxr::mutator;
     template <typename, typename, typename> friend class operations;
+    template <typename, typename> friend class sequence;
+    template <typename, typename> friend class elements;
 
     explicit holder(State& state) : state_(&state), at_(state.taken.take()) {}
     holder(State& state, std::uint32_t at) noexcept : state_(&state), at_(at) {}
@@ -485,6 +517,168 @@ private:
 
 }  // namespace detail
 
+namespace detail {
+
+/// Goes along an array or words, and reads each element as it is looked at.
+template <typename Sequence> class sequence_iterator {
+public:
+    using iterator_category = std::input_iterator_tag;
+    using value_type = typename Sequence::value_type;
+    using difference_type = std::ptrdiff_t;
+    using reference = value_type;
+    using pointer = void;
+
+    sequence_iterator(const Sequence& sequence, std::uint32_t at) noexcept : sequence_(&sequence), at_(at) {}
+
+    value_type operator*() const { return sequence_->read(at_); }
+    sequence_iterator& operator++() noexcept {
+        ++at_;
+        return *this;
+    }
+    sequence_iterator operator++(int) noexcept { return {*sequence_, at_++}; }
+    friend bool operator==(const sequence_iterator& left, const sequence_iterator& right) noexcept { return left.at_ == right.at_; }
+    friend bool operator!=(const sequence_iterator& left, const sequence_iterator& right) noexcept { return left.at_ != right.at_; }
+
+private:
+    const Sequence* sequence_;
+    std::uint32_t at_;
+};
+
+/// What an array and words are alike: an object, which a root holds. Moving it costs nothing.
+template <typename Root, typename State> class sequence {
+public:
+    /// Nil, and of no heap.
+    sequence() noexcept = default;
+
+    /// Takes any object for one, by its shape: lxr.h says how.
+    explicit sequence(Root object) noexcept : object_(std::move(object)) {}
+
+    /// Whether there is an object.
+    explicit operator bool() const { return static_cast<bool>(object_); }
+
+    /// Its object, which may be stored as any other.
+    [[nodiscard]] const Root& object() const& noexcept { return object_; }
+    [[nodiscard]] Root object() && noexcept { return std::move(object_); }
+
+protected:
+    State& state() const { return object_.state(); }
+    std::uint32_t base() const noexcept { return object_.at_; }
+
+private:
+    Root object_;
+};
+
+/// What arrays of a heap and of a mutator do alike. `errc::index` is thrown where not all elements are there that a call names; then none is
+/// written.
+template <typename Root, typename State> class elements : public sequence<Root, State> {
+public:
+    using value_type = Root;
+    using iterator = sequence_iterator<elements>;
+    using sequence<Root, State>::sequence;
+
+    [[nodiscard]] std::uint32_t size() const {
+        std::uint32_t length = 0;
+        done(this->state().array_length(this->base(), &length));
+        return length;
+    }
+    [[nodiscard]] bool empty() const { return size() == 0; }
+
+    /// What an element refers to.
+    [[nodiscard]] Root load(std::uint32_t index) const {
+        Root found(this->state());
+        done(this->state().array_load(found.at_, this->base(), index));
+        return found;
+    }
+
+    /// An element becomes what `source` holds: one of the same registers, or a nil one. Another is `errc::no_register`.
+    void store(std::uint32_t index, const Root& source) { done(this->state().array_store(this->base(), index, of(source))); }
+
+    /// An element becomes nil.
+    void clear(std::uint32_t index) { done(this->state().array_store(this->base(), index, nil)); }
+
+    /// All elements, or `count` of them from `first` on, become what `source` holds.
+    void fill(const Root& source) { fill(0, size(), source); }
+    void fill(std::uint32_t first, std::uint32_t count, const Root& source) {
+        done(this->state().array_fill(this->base(), first, count, of(source)));
+    }
+
+    /// The `count` elements from `at` on become what those of `from` were, from `first` on; it may be this array, and they may overlap. Of another
+    /// array that has a part in common with this one they are copied one after another.
+    void copy_from(std::uint32_t at, const elements& from, std::uint32_t first, std::uint32_t count) {
+        done(this->state().array_copy(this->base(), at, of(from.object()), first, count));
+    }
+
+    /// Elements are loaded as they are looked at, each into a register of its own while it lives. An array doesn't grow, so they stay in place.
+    [[nodiscard]] iterator begin() const { return {*this, 0}; }
+    [[nodiscard]] iterator end() const { return {*this, size()}; }
+
+protected:
+    /// An element becomes what `desired` holds, and what it was is answered: of mutators alone.
+    Root swap_element(std::uint32_t index, const Root& desired) {
+        Root old(this->state());
+        done(this->state().array_swap(old.at_, this->base(), index, of(desired)));
+        return old;
+    }
+
+private:
+    friend iterator;
+    std::uint32_t of(const Root& source) const { return Root::register_of(this->state(), source); }
+    Root read(std::uint32_t index) const { return load(index); }
+};
+
+/// What words of a heap and of a mutator do alike. `errc::index` is thrown where not all words are there that a call names; then none is read or
+/// written.
+template <typename Root, typename State> class any_words : public sequence<Root, State> {
+public:
+    using value_type = std::uint64_t;
+    using iterator = sequence_iterator<any_words>;
+    using sequence<Root, State>::sequence;
+
+    [[nodiscard]] std::uint32_t size() const {
+        std::uint32_t length = 0;
+        done(this->state().words_length(this->base(), &length));
+        return length;
+    }
+    [[nodiscard]] bool empty() const { return size() == 0; }
+
+    [[nodiscard]] std::uint64_t get(std::uint32_t index) const {
+        std::uint64_t word = 0;
+        done(this->state().words_get(this->base(), index, &word));
+        return word;
+    }
+
+    void put(std::uint32_t index, std::uint64_t word) { done(this->state().words_put(this->base(), index, word)); }
+
+    /// Reads words from `first` on: as many as there is room for, or it throws.
+    void read(std::uint32_t first, std::uint64_t* into, std::size_t count) const {
+        done(this->state().words_read(this->base(), first, not_null(into), count));
+    }
+    template <typename Range, typename = std::enable_if_t<std::is_same_v<item_of<Range>, std::uint64_t>>>
+    void read(std::uint32_t first, Range& into) const {
+        read(first, std::data(into), std::size(into));
+    }
+
+    /// All words.
+    [[nodiscard]] std::vector<std::uint64_t> read() const {
+        std::vector<std::uint64_t> all(size());
+        read(0, all);
+        return all;
+    }
+
+    /// Words from `first` on become these.
+    void write(std::uint32_t first, word_list words) { done(this->state().words_write(this->base(), first, words)); }
+
+    /// Words are read as they are looked at, one by one: `read` is faster.
+    [[nodiscard]] iterator begin() const { return {*this, 0}; }
+    [[nodiscard]] iterator end() const { return {*this, size()}; }
+
+private:
+    friend iterator;
+    std::uint64_t read(std::uint32_t index) const { return get(index); }
+};
+
+}  // namespace detail
+
 /// Holds an object of a heap, or is nil. Moving it costs nothing; `copy` takes another register for the same object.
 class root : public detail::holder<root, detail::state> {
 public:
@@ -521,6 +715,18 @@ private:
 /// The roots whose objects a call reads.
 using root_list = detail::holder_list<root>;
 
+/// An array of a heap: 0 to 1,046,529 references, as many as it was made with. It has a register for as long as it lives, as a root has.
+class array : public detail::elements<root, detail::state> {
+public:
+    using elements::elements;
+};
+
+/// Words of a heap: 0 to 524,287 of them, as many as they were made with, for strings and long numbers.
+class words : public detail::any_words<root, detail::state> {
+public:
+    using any_words::any_words;
+};
+
 /// A heap for one thread. It is moved and not copied, and used by one thread at a time.
 class heap {
 public:
@@ -554,6 +760,34 @@ public:
         root made(state());
         detail::done(lxr_large_new(handle(), made.at_, blocks));
         return made;
+    }
+
+    /// A new array of so many nil elements, up to 1,046,529.
+    [[nodiscard]] array make_array(std::uint32_t length) {
+        root made(state());
+        detail::done(lxr_array_new(handle(), made.at_, length));
+        return array(std::move(made));
+    }
+
+    /// So many new words of 0, up to 524,287.
+    [[nodiscard]] words make_words(std::uint32_t length) {
+        root made(state());
+        detail::done(lxr_words_new(handle(), made.at_, length));
+        return words(std::move(made));
+    }
+
+    /// As `make_array`, but a nil array where the heap is full.
+    [[nodiscard]] array try_make_array(std::uint32_t length) {
+        root made(state());
+        const lxr_code code = lxr_array_new(handle(), made.at_, length);
+        return array(made_or_nil(std::move(made), code));
+    }
+
+    /// As `make_words`, but nil words where the heap is full.
+    [[nodiscard]] words try_make_words(std::uint32_t length) {
+        root made(state());
+        const lxr_code code = lxr_words_new(handle(), made.at_, length);
+        return words(made_or_nil(std::move(made), code));
     }
 
     /// As `make`, but a nil root where the heap is full.

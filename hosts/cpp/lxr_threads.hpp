@@ -6,6 +6,7 @@
 //         lxr::local pair = self.make(1, 1);       // one reference, one data word
 //         pair.put(0, 7);
 //         lxr::local old = self.world().exchange(0, pair);
+//         lxr::local_array table = self.make_array(100000);  // so many nil elements
 //         lxr::resting rest(self);                 // until the end of the block the thread may block: it holds up no pause
 //     }).join();
 //
@@ -78,6 +79,35 @@ struct share {
     lxr_code apply(lxr_operation* operations, std::size_t count, std::size_t* done) {
         return lxr_mutator_apply(handle, operations, count, done);
     }
+    lxr_code array_length(std::uint32_t base, std::uint32_t* length) { return lxr_mutator_array_length(handle, base, length); }
+    lxr_code array_load(std::uint32_t dest, std::uint32_t base, std::uint32_t index) {
+        return lxr_mutator_array_load(handle, dest, base, index);
+    }
+    lxr_code array_store(std::uint32_t base, std::uint32_t index, std::uint32_t source) {
+        return lxr_mutator_array_store(handle, base, index, source);
+    }
+    lxr_code array_swap(std::uint32_t dest, std::uint32_t base, std::uint32_t index, std::uint32_t source) {
+        return lxr_mutator_array_swap(handle, dest, base, index, source);
+    }
+    lxr_code array_fill(std::uint32_t base, std::uint32_t first, std::uint32_t count, std::uint32_t source) {
+        return lxr_mutator_array_fill(handle, base, first, count, source);
+    }
+    lxr_code array_copy(std::uint32_t to, std::uint32_t at, std::uint32_t from, std::uint32_t first, std::uint32_t count) {
+        return lxr_mutator_array_copy(handle, to, at, from, first, count);
+    }
+    lxr_code words_length(std::uint32_t base, std::uint32_t* length) { return lxr_mutator_words_length(handle, base, length); }
+    lxr_code words_get(std::uint32_t base, std::uint32_t index, std::uint64_t* word) {
+        return lxr_mutator_words_get(handle, base, index, word);
+    }
+    lxr_code words_put(std::uint32_t base, std::uint32_t index, std::uint64_t word) {
+        return lxr_mutator_words_put(handle, base, index, word);
+    }
+    lxr_code words_read(std::uint32_t base, std::uint32_t first, std::uint64_t* words, std::size_t count) {
+        return lxr_mutator_words_read(handle, base, first, words, count);
+    }
+    lxr_code words_write(std::uint32_t base, std::uint32_t first, const word_list& words) {
+        return lxr_mutator_words_write(handle, base, first, words.data(), words.size());
+    }
 };
 
 struct closes {
@@ -119,6 +149,22 @@ public:
 
 /// The locals whose objects a call reads.
 using local_list = detail::holder_list<local>;
+
+/// An array that a mutator has a local of: 0 to 1,046,529 references, as many as it was made with. Its elements are loaded and stored one by one,
+/// each in one order for all threads; what others may see of `fill` and `copy_from` meanwhile lxr_threads.h says.
+class local_array : public detail::elements<local, detail::share> {
+public:
+    using elements::elements;
+
+    /// An element becomes what `desired` holds, and what it was is answered, in one step of all threads. `desired` is as `store` wants it.
+    local exchange(std::uint32_t index, const local& desired) { return swap_element(index, desired); }
+};
+
+/// Words that a mutator has a local of: 0 to 1,023 of them, as many as they were made with.
+class local_words : public detail::any_words<local, detail::share> {
+public:
+    using any_words::any_words;
+};
 
 /// A heap that threads share. It is moved and not copied, and that, as its end, while no mutator is in it.
 class shared_heap {
@@ -189,6 +235,34 @@ public:
         local made(share());
         detail::done(share().make_with(made.at_, made.registers_of(refs, errc::size), words));
         return made;
+    }
+
+    /// A new array of so many nil elements, up to 1,046,529. No other thread finds it before it is stored.
+    [[nodiscard]] local_array make_array(std::uint32_t length) {
+        local made(share());
+        detail::done(lxr_mutator_array_new(share().handle, made.at_, length));
+        return local_array(std::move(made));
+    }
+
+    /// So many new words of 0, up to 1,023.
+    [[nodiscard]] local_words make_words(std::uint32_t length) {
+        local made(share());
+        detail::done(lxr_mutator_words_new(share().handle, made.at_, length));
+        return local_words(std::move(made));
+    }
+
+    /// As `make_array`, but a nil array where the heap is full.
+    [[nodiscard]] local_array try_make_array(std::uint32_t length) {
+        local made(share());
+        const lxr_code code = lxr_mutator_array_new(share().handle, made.at_, length);
+        return local_array(made_or_nil(std::move(made), code));
+    }
+
+    /// As `make_words`, but nil words where the heap is full.
+    [[nodiscard]] local_words try_make_words(std::uint32_t length) {
+        local made(share());
+        const lxr_code code = lxr_mutator_words_new(share().handle, made.at_, length);
+        return local_words(made_or_nil(std::move(made), code));
     }
 
     /// As `make_with`, but a nil local where the heap is full.

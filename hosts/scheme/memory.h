@@ -2,9 +2,9 @@
  * The heap, as the interpreter sees it. SPDX: MIT OR Apache-2.0
  *
  * It has one of four versions, chosen at build: memory_lxr.c on the proved collector, memory_threads.c on the one that threads share,
- * memory_boehm.c on Boehm's, and memory_malloc.c, which never frees. An object has up to OBJECT_MOST references and as many data words; a
- * large object has a body of words alone. Objects are held by up to 256 registers, by number. What a register, or an object that a register
- * leads to, holds is kept.
+ * memory_boehm.c on Boehm's, and memory_malloc.c, which never frees. An object has up to OBJECT_MOST references and as many data words,
+ * and one of words alone up to WORDS_MOST of them. Objects are held by up to 256 registers, by number. What a register, or an object that a
+ * register leads to, holds is kept.
  *
  * Registers that nobody reads any more let go of what they hold before a pause, and not at once: a count of what is made, `memory_left`,
  * says when that is due. Then whoever runs the program lets go of them, and calls memory_pause.
@@ -20,11 +20,11 @@
 #include <stdio.h>
 
 enum { MEMORY_REGISTERS = 256, MEMORY_NIL = 3 /* is nil between calls here */ };
-enum { OBJECT_MOST = 1023, BLOCK_BYTES = 32768, BODY_BLOCK_WORDS = 4096, BODY_BLOCKS_MOST = 128 };
+enum { OBJECT_MOST = 1023, WORDS_MOST = 524287, BLOCK_BYTES = 32768 };
 
 typedef struct memory_options {
     uint32_t blocks;      /* the heap's size, in blocks of 32 KB */
-    uint32_t body_blocks; /* room for bodies of large objects, in such blocks */
+    uint32_t body_blocks; /* room for long objects of words, in such blocks */
     uint32_t every;       /* bytes of new objects between two plain pauses; 0: the version's own choice */
     bool pauses;          /* whether pauses are timed */
     uint32_t registers;   /* of each thread, 16 to MEMORY_REGISTERS */
@@ -57,8 +57,9 @@ void memory_get_many(unsigned base, unsigned first, Word *into, size_t count);
 void memory_put_many(unsigned base, unsigned first, const Word *from, size_t count);
 void memory_load_many(unsigned base, unsigned first, const uint32_t *registers, size_t count);
 
-/* A new large object, whose words are 0. Whether there is room. */
-bool memory_big(unsigned dest, unsigned blocks);
+/* A new object of words alone, which are 0. Whether there is room. These read and write them, however many there are; where threads share
+ * the heap the first one is read and written as that of other objects is. */
+bool memory_words(unsigned dest, size_t count);
 void memory_read(unsigned base, size_t index, Word *into, size_t count);
 void memory_write(unsigned base, size_t index, const Word *from, size_t count);
 

@@ -137,19 +137,20 @@ bool memory_same(unsigned left, unsigned right) {
 
 void memory_registers_in_use(unsigned count_of_registers) { want(lxr_registers_in_use(&heap, count_of_registers)); }
 
-bool memory_big(unsigned dest, unsigned blocks) {
+bool memory_words(unsigned dest, size_t count_of_words) {
     const uint64_t began = is_timed ? pauses_clock() : 0;
-    const lxr_code code = lxr_large_new(&heap, dest, blocks);
+    if (count_of_words <= OBJECT_MOST) count_new(count_of_words);
+    const lxr_code code = lxr_words_new(&heap, dest, (uint32_t)count_of_words);
     if (is_timed) note_pauses(PAUSE_COLLECTING, began);
     return is_done(code);
 }
 
 void memory_read(unsigned base, size_t index, Word *into, size_t count_of_words) {
-    want(lxr_large_read(&heap, base, (uint32_t)index, into, count_of_words));
+    want(lxr_words_read(&heap, base, (uint32_t)index, into, count_of_words));
 }
 
 void memory_write(unsigned base, size_t index, const Word *from, size_t count_of_words) {
-    want(lxr_large_write(&heap, base, (uint32_t)index, from, count_of_words));
+    want(lxr_words_write(&heap, base, (uint32_t)index, from, count_of_words));
 }
 
 void memory_collect(void) {

@@ -76,7 +76,7 @@ void memory_load_many(unsigned base, unsigned first, const uint32_t *into, size_
     for (size_t i = 0; i < count; i++) registers[into[i]] = references_of(registers[base])[first + i];
 }
 
-bool memory_big(unsigned dest, unsigned blocks) { return make(dest, 0, (size_t)blocks * BODY_BLOCK_WORDS); }
+bool memory_words(unsigned dest, size_t count) { return make(dest, 0, count); }
 
 void memory_read(unsigned base, size_t index, Word *into, size_t count) {
     memcpy(into, words_of(registers[base]) + index, count * sizeof *into);

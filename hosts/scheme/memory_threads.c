@@ -2,8 +2,8 @@
  * The heap on the proved collector, as threads share it. SPDX: MIT OR Apache-2.0
  *
  * Each thread of the program has a mutator, whose registers are its machine's; a call here is one of that mutator's operations, or several.
- * Pauses come by the heap's own pace, at any call, and so registers let go of what isn't needed several times between two of them. There
- * are no large objects, so a long string is an object of parts.
+ * Pauses come by the heap's own pace, at any call, and so registers let go of what isn't needed several times between two of them. An
+ * object of words has as many as any other object there, so a longer one refers to parts.
  */
 #include "fault.h"
 #include "memory.h"
@@ -143,17 +143,29 @@ bool memory_same(unsigned left, unsigned right) {
     return same;
 }
 
-/* A long string has one word of its own, and refers to parts. The register that is nil holds a part for a while. */
-bool memory_big(unsigned dest, unsigned blocks) {
-    const size_t words = (size_t)blocks * BODY_BLOCK_WORDS, parts = (words + PART_WORDS - 1) / PART_WORDS;
-    if (!memory_new(dest, (unsigned)parts, 1)) return false;
-    for (size_t part = 0; part < parts; part++) {
-        const size_t left = words - part * PART_WORDS;
-        if (!memory_new(MEMORY_NIL, 0, (unsigned)(left < PART_WORDS ? left : PART_WORDS))) return false;
-        memory_store(dest, (unsigned)part, MEMORY_NIL);
+/*
+ * Of many words the object has the first, and refers to parts with the others. It stands in the register that is nil until it is whole, and
+ * parts in `dest`: the last reference keeps what that held, in case that there is no room, and then the last part once more.
+ */
+bool memory_words(unsigned dest, size_t count) {
+    const unsigned parts = (unsigned)((count + PART_WORDS - 2) / PART_WORDS);
+    bool fits = true;
+    if (count <= OBJECT_MOST) return memory_new(dest, 0, (unsigned)count);
+    if (!memory_new(MEMORY_NIL, parts + 1, 1)) return false;
+    memory_store(MEMORY_NIL, parts, dest);
+    for (unsigned part = 0; fits && part < parts; part++) {
+        const size_t left = count - 1 - (size_t)part * PART_WORDS;
+        fits = memory_new(dest, 0, (unsigned)(left < PART_WORDS ? left : PART_WORDS));
+        if (fits) memory_store(MEMORY_NIL, part, dest);
+    }
+    if (fits) {
+        memory_store(MEMORY_NIL, parts, dest);
+        memory_move(dest, MEMORY_NIL);
+    } else {
+        memory_load(dest, MEMORY_NIL, parts);
     }
     memory_nil(MEMORY_NIL);
-    return true;
+    return fits;
 }
 
 /* How many of some words from an index on are in its part, which the register that is nil holds then. */
@@ -163,8 +175,16 @@ static size_t load_part(unsigned base, size_t index, size_t count) {
     return count < left ? count : left;
 }
 
+/* Whether an object of words has them in parts: it hasn't the one that was asked for. */
+static bool is_in_parts(lxr_code code) {
+    if (code == LXR_E_INDEX) return true;
+    want(code);
+    return false;
+}
+
 void memory_read(unsigned base, size_t index, Word *into, size_t count) {
-    while (count) {
+    if (!is_in_parts(lxr_mutator_get_many(mutator, base, (uint32_t)index, into, count))) return;
+    for (index--; count;) {
         const size_t now = load_part(base, index, count);
         memory_get_many(MEMORY_NIL, (unsigned)(index % PART_WORDS), into, now);
         index += now;
@@ -175,7 +195,8 @@ void memory_read(unsigned base, size_t index, Word *into, size_t count) {
 }
 
 void memory_write(unsigned base, size_t index, const Word *from, size_t count) {
-    while (count) {
+    if (!is_in_parts(lxr_mutator_put_many(mutator, base, (uint32_t)index, from, count))) return;
+    for (index--; count;) {
         const size_t now = load_part(base, index, count);
         memory_put_many(MEMORY_NIL, (unsigned)(index % PART_WORDS), from, now);
         index += now;

@@ -72,7 +72,7 @@ PrimitiveFunction make_string, string_length, string_ref, string_set, string_app
     string_to_symbol;
 
 /* The bytes of the longest string. */
-enum { STRING_MOST = BODY_BLOCKS_MOST * BODY_BLOCK_WORDS * 8 };
+enum { STRING_MOST = (WORDS_MOST - 1) * 8 };
 
 /* The bytes of a string from one to another stand in the machine's text from some byte on. */
 void read_string_text(Machine *machine, unsigned string, size_t from, size_t to, size_t at);
@@ -84,8 +84,8 @@ void want_text(Machine *machine, size_t bytes);
 void make_string_room(Machine *machine, unsigned dest, size_t length);
 
 /* A string's bytes from some one on become others. */
-void write_string_text(Machine *machine, unsigned string, size_t at, const char *bytes, size_t count);
-unsigned char string_byte(const Machine *machine, unsigned string, size_t at);
+void write_string_text(unsigned string, size_t at, const char *bytes, size_t count);
+unsigned char string_byte(unsigned string, size_t at);
 
 /* A new string has the first bytes of the machine's text. */
 void make_string_of_text(Machine *machine, unsigned dest, size_t length);

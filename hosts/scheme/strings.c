@@ -1,8 +1,8 @@
 /*
  * Strings, and what is made of them and into them. SPDX: MIT OR Apache-2.0
  *
- * A string is an object of words, eight bytes in each; one that takes more words than an object may have has a body. Its length stands in
- * its word. What works on many bytes copies them to the machine's text, works there, and makes a string of it.
+ * A string is an object of words, eight bytes in each. Its length stands in its word. What works on many bytes copies them to the machine's
+ * text, works there, and makes a string of it.
  */
 #include "primitives.h"
 #include <string.h>
@@ -10,8 +10,6 @@
 enum { WORD_BYTES = 8, CHUNK_WORDS = 64 };
 
 static size_t words_of(size_t length) { return (length + WORD_BYTES - 1) / WORD_BYTES; }
-
-static bool is_large(size_t length) { return words_of(length) > FIELDS_MOST; }
 
 static size_t want_string(const Machine *machine, const char *name, unsigned operand) {
     if (kind_of(machine->word[operand]) != KIND_STRING) machine_fault(machine, "%s: not a string", name);
@@ -29,31 +27,20 @@ void want_text(Machine *machine, size_t bytes) {
     machine->text = more_memory(machine->text, machine->text_room);
 }
 
-static void read_words(unsigned string, bool is_body, size_t index, Word *into, size_t count) {
-    if (is_body) {
-        memory_read(string, index, into, count);
-    } else {
-        memory_get_many(string, (unsigned)index + HEAD_WORDS, into, count);
-    }
-}
+static void read_words(unsigned string, size_t index, Word *into, size_t count) { memory_read(string, index + HEAD_WORDS, into, count); }
 
-static void write_words(unsigned string, bool is_body, size_t index, const Word *from, size_t count) {
-    if (is_body) {
-        memory_write(string, index, from, count);
-    } else {
-        memory_put_many(string, (unsigned)index + HEAD_WORDS, from, count);
-    }
+static void write_words(unsigned string, size_t index, const Word *from, size_t count) {
+    memory_write(string, index + HEAD_WORDS, from, count);
 }
 
 void read_string_text(Machine *machine, unsigned string, size_t from, size_t to, size_t at) {
-    const bool is_body = is_large((size_t)payload(machine->word[string]));
     Word chunk[CHUNK_WORDS];
     want_text(machine, at + (to - from));
     while (from < to) {
         const size_t first = from / WORD_BYTES, left = words_of(to) - first;
         const size_t count = left < CHUNK_WORDS ? left : CHUNK_WORDS;
         const size_t end = (first + count) * WORD_BYTES < to ? (first + count) * WORD_BYTES : to;
-        read_words(string, is_body, first, chunk, count);
+        read_words(string, first, chunk, count);
         memcpy(machine->text + at, (const char *)chunk + from % WORD_BYTES, end - from);
         at += end - from;
         from = end;
@@ -72,10 +59,10 @@ static void make_short_string(const Machine *machine, unsigned dest, const char 
 
 static void make_string_object(const Machine *machine, unsigned dest, size_t length) {
     if (length > STRING_MOST) machine_fault(machine, "a string of more than %d bytes", STRING_MOST);
-    if (!is_large(length)) {
-        machine_new(machine, dest, 0, HEAD_WORDS + (unsigned)words_of(length));
-    } else if (!memory_big(dest, (unsigned)((words_of(length) + BODY_BLOCK_WORDS - 1) / BODY_BLOCK_WORDS))) {
-        machine_full(machine);
+    const size_t words = HEAD_WORDS + words_of(length);
+    if (!memory_words(dest, words)) {
+        machine_make_room(machine);
+        if (!memory_words(dest, words)) machine_full(machine);
     }
     machine_head(dest, REFERENCE(KIND_STRING, length));
 }
@@ -85,23 +72,22 @@ void make_string_room(Machine *machine, unsigned dest, size_t length) {
     machine_set(machine, dest, REFERENCE(KIND_STRING, length));
 }
 
-void write_string_text(Machine *machine, unsigned string, size_t at, const char *bytes, size_t count) {
-    const bool is_body = is_large((size_t)payload(machine->word[string]));
+void write_string_text(unsigned string, size_t at, const char *bytes, size_t count) {
     Word chunk[CHUNK_WORDS];
     while (count) {
         const size_t skipped = at % WORD_BYTES, room = sizeof chunk - skipped, now = count < room ? count : room;
-        read_words(string, is_body, at / WORD_BYTES, chunk, words_of(skipped + now));
+        read_words(string, at / WORD_BYTES, chunk, words_of(skipped + now));
         memcpy((char *)chunk + skipped, bytes, now);
-        write_words(string, is_body, at / WORD_BYTES, chunk, words_of(skipped + now));
+        write_words(string, at / WORD_BYTES, chunk, words_of(skipped + now));
         at += now;
         bytes += now;
         count -= now;
     }
 }
 
-unsigned char string_byte(const Machine *machine, unsigned string, size_t at) {
+unsigned char string_byte(unsigned string, size_t at) {
     Word word;
-    read_words(string, is_large((size_t)payload(machine->word[string])), at / WORD_BYTES, &word, 1);
+    read_words(string, at / WORD_BYTES, &word, 1);
     return ((const unsigned char *)&word)[at % WORD_BYTES];
 }
 
@@ -117,7 +103,7 @@ void make_string_of(Machine *machine, unsigned dest, const char *text, size_t le
         const size_t bytes = length - from < sizeof chunk ? length - from : sizeof chunk;
         chunk[words_of(bytes) - 1] = 0;
         memcpy(chunk, text + from, bytes);
-        write_words(dest, is_large(length), from / WORD_BYTES, chunk, words_of(bytes));
+        write_words(dest, from / WORD_BYTES, chunk, words_of(bytes));
     }
     machine_set(machine, dest, REFERENCE(KIND_STRING, length));
 }
@@ -142,7 +128,7 @@ void string_ref(Machine *machine, unsigned dest, unsigned string, unsigned index
     (void)unused;
     const size_t length = want_string(machine, "string-ref", string);
     const size_t at = want_index(machine, "string-ref", machine->word[index], length);
-    machine_set(machine, dest, PLAIN(KIND_CHARACTER, string_byte(machine, string, at)));
+    machine_set(machine, dest, PLAIN(KIND_CHARACTER, string_byte(string, at)));
 }
 
 void string_set(Machine *machine, unsigned dest, unsigned string, unsigned index, unsigned value) {
@@ -150,9 +136,9 @@ void string_set(Machine *machine, unsigned dest, unsigned string, unsigned index
     const size_t length = want_string(machine, "string-set!", string);
     const size_t at = want_index(machine, "string-set!", machine->word[index], length);
     Word word;
-    read_words(string, is_large(length), at / WORD_BYTES, &word, 1);
+    read_words(string, at / WORD_BYTES, &word, 1);
     ((unsigned char *)&word)[at % WORD_BYTES] = want_character(machine, "string-set!", value);
-    write_words(string, is_large(length), at / WORD_BYTES, &word, 1);
+    write_words(string, at / WORD_BYTES, &word, 1);
 }
 
 void string_append(Machine *machine, unsigned dest, unsigned left, unsigned right, unsigned unused) {

@@ -35,6 +35,18 @@ struct calls {
     lxr_code (*large_put)(lxr_heap *, uint32_t, uint32_t, uint64_t);
     lxr_code (*large_read)(const lxr_heap *, uint32_t, uint32_t, uint64_t *, size_t);
     lxr_code (*large_write)(lxr_heap *, uint32_t, uint32_t, const uint64_t *, size_t);
+    lxr_code (*array_new)(lxr_heap *, uint32_t, uint32_t);
+    lxr_code (*array_length)(const lxr_heap *, uint32_t, uint32_t *);
+    lxr_code (*array_load)(lxr_heap *, uint32_t, uint32_t, uint32_t);
+    lxr_code (*array_store)(lxr_heap *, uint32_t, uint32_t, uint32_t);
+    lxr_code (*array_fill)(lxr_heap *, uint32_t, uint32_t, uint32_t, uint32_t);
+    lxr_code (*array_copy)(lxr_heap *, uint32_t, uint32_t, uint32_t, uint32_t, uint32_t);
+    lxr_code (*words_new)(lxr_heap *, uint32_t, uint32_t);
+    lxr_code (*words_length)(const lxr_heap *, uint32_t, uint32_t *);
+    lxr_code (*words_get)(const lxr_heap *, uint32_t, uint32_t, uint64_t *);
+    lxr_code (*words_put)(lxr_heap *, uint32_t, uint32_t, uint64_t);
+    lxr_code (*words_read)(const lxr_heap *, uint32_t, uint32_t, uint64_t *, size_t);
+    lxr_code (*words_write)(lxr_heap *, uint32_t, uint32_t, const uint64_t *, size_t);
     lxr_code (*pause)(lxr_heap *);
     lxr_code (*collect)(lxr_heap *);
     lxr_code (*set_pace)(lxr_heap *, uint64_t);

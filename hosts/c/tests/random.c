@@ -123,16 +123,21 @@ static void spoil(void *with, uint32_t refs, uint32_t words, uint32_t blocks) {
     if (blocks) spoiled->of_blocks += divided_up(blocks, spoiled->blocks) + 1;
 }
 
-/* Whether what can be reached can leave no room for an object of such a shape, or such a body. The world has 3 of the 128 lines of a
- * block. */
-static void may_be_full(uint32_t refs, uint32_t words, uint32_t blocks) {
+/*
+ * Whether what can be reached, and so many parts of an array that are made already, can leave no room for an object of such a shape, or such a
+ * body. The world has 3 of the 128 lines of a block.
+ */
+static void may_be_full_beside(uint32_t parts, uint32_t refs, uint32_t words, uint32_t blocks) {
     struct spoiled spoiled = { lines_of(refs, words), blocks ? blocks : 1, 0, 0 };
     plain_each_reachable(&now.plain, spoil, &spoiled);
+    for (uint32_t part = 0; part < parts; part++) spoil(&spoiled, LXR_MOST_REFS, 1, 0);
     uint64_t runs = 125 / spoiled.lines + (uint64_t)(now.blocks - 1) * (128 / spoiled.lines);
     bool no_run = spoiled.of_lines >= runs, no_blocks = blocks && spoiled.of_blocks >= now.body_blocks / blocks;
     if (!no_run && !no_blocks) differ("full, where what can be reached leaves room");
     sums.full++;
 }
+
+static void may_be_full(uint32_t refs, uint32_t words, uint32_t blocks) { may_be_full_beside(0, refs, words, blocks); }
 
 /* ---- Calls on both heaps ---- */
 
@@ -380,6 +385,126 @@ static void call_apply(void) {
     for (size_t at = 0; at < count; at++) agree("the word of an operation", on_lxr[at].word, on_plain[at].word);
 }
 
+/* ---- Arrays and words of any length ---- */
+
+static uint32_t some_length(void) {
+    static const uint32_t borders[] = { 0, 1, 1022, 1023, 1024, 2046, 2047, 4095, 4096 };
+    return one_in(200) ? wild() : one_in(2) ? borders[below(sizeof borders / sizeof *borders)] : one_in(3) ? below(9000) : below(20);
+}
+
+static void call_array_new(void) {
+    uint32_t dest = some_dest(), length = some_length();
+    lxr_code code = calls_lxr.array_new(&now.lxr, dest, length);
+    if (code == LXR_E_FULL && length <= LXR_MOST_REFS)
+        may_be_full(length, 0, 0);
+    else if (code == LXR_E_FULL)
+        may_be_full_beside(length / LXR_MOST_REFS + 1, LXR_MOST_REFS, 0, 0);
+    else
+        agree("array_new", code, calls_plain.array_new(&now.plain, dest, length));
+}
+
+static void call_words_new(void) {
+    uint32_t dest = some_dest(), length = some_length(), blocks = length > LXR_MOST_WORDS ? length / LXR_BLOCK_WORDS + 1 : 0;
+    lxr_code code = calls_lxr.words_new(&now.lxr, dest, length);
+    if (code == LXR_E_FULL)
+        may_be_full(0, blocks ? 0 : length, blocks);
+    else
+        agree("words_new", code, calls_plain.words_new(&now.plain, dest, length));
+}
+
+/* How many elements or words the object in a register has as an array or as words; 0 where it holds none. */
+static uint32_t length_of(uint32_t base, bool words) {
+    uint32_t length = 0;
+    lxr_code code = words ? calls_plain.words_length(&now.plain, base, &length) : calls_plain.array_length(&now.plain, base, &length);
+    return code == LXR_OK ? length : 0;
+}
+
+/* A register, mostly one whose object has such fields; half of the time one with many of them. */
+static uint32_t some_long_base(bool words) {
+    uint32_t base = some_register(), wanted = one_in(2) ? LXR_MOST_REFS + 1 : 1;
+    for (int tries = 0; tries < 12 && !one_in(30) && length_of(base, words) < wanted; tries++) base = any_register();
+    return base;
+}
+
+/* An index of so many: often one at the border of two parts. */
+static uint32_t index_below(uint32_t length) {
+    if (length == 0 || one_in(60)) return wild();
+    uint32_t border = LXR_MOST_REFS * below(4) + below(3);
+    return one_in(3) && border > 0 && border - 1 < length ? border - 1 : one_in(30) ? length : below(length);
+}
+
+/* How many from an index on: mostly few, and seldom more than there are. */
+static uint32_t count_from(uint32_t first, uint32_t length) {
+    if (one_in(40) || first > length) return one_in(2) ? wild() : below(5);
+    return one_in(4) ? length - first : below((one_in(2) && length - first > 30 ? 30 : length - first) + 1);
+}
+
+static void call_length(void) {
+    uint32_t base = some_register(), on_lxr = 7, on_plain = 7;
+    agree("array_length", calls_lxr.array_length(&now.lxr, base, &on_lxr), calls_plain.array_length(&now.plain, base, &on_plain));
+    agree("the length of an array", on_lxr, on_plain);
+    agree("words_length", calls_lxr.words_length(&now.lxr, base, &on_lxr), calls_plain.words_length(&now.plain, base, &on_plain));
+    agree("the length of words", on_lxr, on_plain);
+}
+
+static void call_array_load(void) {
+    uint32_t base = some_long_base(false), index = index_below(length_of(base, false)), dest = some_dest();
+    agree("array_load", calls_lxr.array_load(&now.lxr, dest, base, index), calls_plain.array_load(&now.plain, dest, base, index));
+}
+
+static void call_array_store(void) {
+    uint32_t base = some_long_base(false), index = index_below(length_of(base, false)), source = some_register();
+    agree("array_store", calls_lxr.array_store(&now.lxr, base, index, source), calls_plain.array_store(&now.plain, base, index, source));
+}
+
+static void call_array_fill(void) {
+    uint32_t base = some_long_base(false), length = length_of(base, false), source = some_register();
+    uint32_t first = index_below(length), count = count_from(first, length);
+    agree("array_fill", calls_lxr.array_fill(&now.lxr, base, first, count, source),
+          calls_plain.array_fill(&now.plain, base, first, count, source));
+}
+
+/* Half of them within one array, and these mostly to a place nearby. */
+static void call_array_copy(void) {
+    uint32_t to = some_long_base(false), from = one_in(2) ? to : some_long_base(false);
+    uint32_t room = length_of(to, false), length = length_of(from, false);
+    uint32_t first = index_below(length), at = one_in(3) ? index_below(room) : first + 2 - below(5);
+    uint32_t count = count_from(first > at ? first : at, room < length ? room : length);
+    agree("array_copy", calls_lxr.array_copy(&now.lxr, to, at, from, first, count),
+          calls_plain.array_copy(&now.plain, to, at, from, first, count));
+}
+
+static void call_words_get(void) {
+    uint32_t base = some_long_base(true), index = index_below(length_of(base, true));
+    uint64_t on_lxr = 1, on_plain = 1;
+    agree("words_get", calls_lxr.words_get(&now.lxr, base, index, &on_lxr), calls_plain.words_get(&now.plain, base, index, &on_plain));
+    agree("the word of words_get", on_lxr, on_plain);
+}
+
+static void call_words_put(void) {
+    uint32_t base = some_long_base(true), index = index_below(length_of(base, true));
+    uint64_t word = some_word();
+    agree("words_put", calls_lxr.words_put(&now.lxr, base, index, word), calls_plain.words_put(&now.plain, base, index, word));
+}
+
+static void call_words_read(void) {
+    static uint64_t on_lxr[LONGEST], on_plain[LONGEST];
+    uint32_t base = some_long_base(true), length = length_of(base, true), first = index_below(length), count = count_from(first, length);
+    if (count > LONGEST && first <= length && count <= length - first) count = LONGEST;
+    agree("words_read", calls_lxr.words_read(&now.lxr, base, first, on_lxr, count),
+          calls_plain.words_read(&now.plain, base, first, on_plain, count));
+    if (memcmp(on_lxr, on_plain, sizeof on_lxr) != 0) differ("words_read: other words");
+}
+
+static void call_words_write(void) {
+    static uint64_t words[LONGEST];
+    uint32_t base = some_long_base(true), length = length_of(base, true), first = index_below(length), count = count_from(first, length);
+    if (count > LONGEST && first <= length && count <= length - first) count = LONGEST;
+    draw_words(words, LONGEST);
+    agree("words_write", calls_lxr.words_write(&now.lxr, base, first, words, count),
+          calls_plain.words_write(&now.plain, base, first, words, count));
+}
+
 /* ---- Rounds ---- */
 
 /* Whether all registers hold the like on both heaps. */
@@ -401,11 +526,14 @@ static const struct {
     void (*call)(void);
     uint32_t share;
 } kinds[] = {
-    { call_new, 200 },     { call_load, 200 },     { call_store, 250 },     { call_get, 80 },          { call_put, 80 },
-    { call_move, 40 },     { call_nil, 60 },       { call_same, 20 },       { call_big, 20 },          { call_bget, 20 },
-    { call_bput, 20 },     { call_bread, 10 },     { call_bwrite, 10 },     { call_new_with, 60 },     { call_get_many, 30 },
-    { call_put_many, 30 }, { call_load_many, 30 }, { call_store_many, 40 }, { call_apply, 30 },        { call_long_stores, 1 },
-    { call_pause, 4 },     { call_collect, 2 },    { call_set_pace, 1 },    { agree_on_registers, 2 }, { call_registers_in_use, 6 },
+    { call_new, 200 },        { call_load, 200 },      { call_store, 250 },     { call_get, 80 },          { call_put, 80 },
+    { call_move, 40 },        { call_nil, 60 },        { call_same, 20 },       { call_big, 20 },          { call_bget, 20 },
+    { call_bput, 20 },        { call_bread, 10 },      { call_bwrite, 10 },     { call_new_with, 60 },     { call_get_many, 30 },
+    { call_put_many, 30 },    { call_load_many, 30 },  { call_store_many, 40 }, { call_apply, 30 },        { call_long_stores, 1 },
+    { call_pause, 4 },        { call_collect, 2 },     { call_set_pace, 1 },    { agree_on_registers, 2 }, { call_registers_in_use, 6 },
+    { call_array_new, 20 },   { call_words_new, 20 },  { call_length, 10 },     { call_array_load, 40 },   { call_array_store, 40 },
+    { call_array_fill, 6 },   { call_array_copy, 12 }, { call_words_get, 20 },  { call_words_put, 20 },    { call_words_read, 10 },
+    { call_words_write, 10 },
 };
 
 static void make_call(void) {

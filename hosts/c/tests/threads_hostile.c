@@ -251,6 +251,13 @@ static void are_nil(lxr_mutator *mutator, uint32_t registers, uint32_t from) {
     }
 }
 
+/* The mutator leaves, and the one that has its number next finds nothing in its registers. */
+static void enter_again(lxr_shared_heap *heap, lxr_mutator **mutator, uint32_t registers) {
+    IS(lxr_mutator_leave(mutator), LXR_OK);
+    IS(lxr_mutator_enter(heap, mutator), LXR_OK);
+    are_nil(*mutator, registers, 1);
+}
+
 /* So many registers: all of them are there, and those that aren't in use are nil. */
 static void try_in_use(uint32_t registers) {
     lxr_shared_heap *heap = NULL;
@@ -277,6 +284,12 @@ static void try_in_use(uint32_t registers) {
     IS(lxr_mutator_wake(mutator), LXR_OK);
     IS(lxr_mutator_registers_in_use(mutator, 1), LXR_OK);
     are_nil(mutator, registers, 1);
+    IS(lxr_mutator_new(mutator, 1, 0, 1), LXR_OK);
+    IS(lxr_mutator_store(mutator, 0, 0, 1), LXR_OK);
+    IS(lxr_mutator_load(mutator, registers - 1, 0, 0), LXR_OK);
+    enter_again(heap, &mutator, registers);
+    IS(lxr_mutator_swap(mutator, registers - 2, 0, 0, 1), LXR_OK);
+    enter_again(heap, &mutator, registers);
     IS(lxr_mutator_leave(&mutator), LXR_OK);
     IS(lxr_shared_heap_close(&heap), LXR_OK);
 }

@@ -42,12 +42,14 @@ struct Readme;
 mod error;
 mod operation;
 mod register;
+mod sequences;
 mod settings;
 pub mod threads;
 
 pub use error::Error;
 pub use operation::{Operation, Stopped};
 pub use register::{Register, R0, R1, R10, R11, R12, R13, R14, R15, R2, R3, R4, R5, R6, R7, R8, R9};
+pub use sequences::{Array, Words, MOST_ELEMENTS, MOST_LENGTH};
 pub use settings::{Count, Pace, Settings};
 
 use error::done;
@@ -295,6 +297,38 @@ impl Heap {
     /// [`Error::Nil`], and [`Error::Index`] where the body doesn't have them all.
     pub fn body_write(&mut self, base: Register, index: u32, from: &[u64]) -> Result<(), Error> {
         done(unsafe { raw::lxr_large_write(&mut self.handle, base.number(), index, from.as_ptr(), from.len()) })
+    }
+
+    /// The register holds a new array of so many nil elements, up to [`MOST_ELEMENTS`].
+    ///
+    /// # Errors
+    /// [`Error::Size`]; [`Error::Full`], and then the register holds what it held; and [`Error::Register`], where the heap has 255 or 256
+    /// registers and the array more than 1,023 elements.
+    pub fn make_array(&mut self, dest: Register, length: u32) -> Result<(), Error> {
+        done(unsafe { raw::lxr_array_new(&mut self.handle, dest.number(), length) })
+    }
+
+    /// The array that the register holds.
+    pub fn array(&mut self, base: Register) -> Array<&mut Heap> {
+        Array::new(self, base)
+    }
+
+    /// The register holds so many new words, all 0, up to [`MOST_LENGTH`]. More than 1,023 are a large object.
+    ///
+    /// # Errors
+    /// [`Error::Size`] and [`Error::Full`].
+    pub fn make_words(&mut self, dest: Register, length: u32) -> Result<(), Error> {
+        done(unsafe { raw::lxr_words_new(&mut self.handle, dest.number(), length) })
+    }
+
+    /// The words that the register holds, to be read.
+    pub fn words(&self, base: Register) -> Words<&Heap> {
+        Words::new(self, base)
+    }
+
+    /// The words that the register holds, to be read and written.
+    pub fn words_mut(&mut self, base: Register) -> Words<&mut Heap> {
+        Words::new(self, base)
     }
 
     /// How many fields the base's object has; `None` where the register is nil.

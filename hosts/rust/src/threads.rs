@@ -41,6 +41,7 @@ use std::time::Duration;
 use crate::error::{done, Error};
 use crate::operation::{name_operations, Stopped};
 use crate::register::{self, numbers, Register};
+use crate::sequences::{Array, Words};
 use crate::settings::Pace;
 use kogyulen_sys as raw;
 
@@ -360,7 +361,7 @@ pub struct Mutator<'h> {
 // SAFETY: by lxr_threads.h a mutator is in one call at a time, in whichever thread of the system.
 unsafe impl Send for Mutator<'_> {}
 
-impl Mutator<'_> {
+impl<'h> Mutator<'h> {
     /// The register holds a new object with nil references and words of 0; at most 1,023 of each. Where there is no room, this waits for a
     /// pause, and for a collecting one.
     ///
@@ -505,6 +506,34 @@ impl Mutator<'_> {
         done(unsafe { raw::lxr_mutator_store_many(self.raw(), base.number(), first, numbers(sources), sources.len()) })
     }
 
+    /// The register holds a new array of so many nil elements, up to [`MOST_ELEMENTS`](crate::MOST_ELEMENTS). No other thread finds it before
+    /// it is stored.
+    ///
+    /// # Errors
+    /// [`Error::Register`] for [`R0`](crate::R0), or where each mutator has 255 or 256 registers; [`Error::Size`]; and [`Error::Full`]: then the
+    /// register holds what it held.
+    pub fn make_array(&mut self, dest: Register, length: u32) -> Result<(), Error> {
+        done(unsafe { raw::lxr_mutator_array_new(self.raw(), dest.number(), length) })
+    }
+
+    /// The array that the register holds.
+    pub fn array(&mut self, base: Register) -> Array<&mut Mutator<'h>> {
+        Array::new(self, base)
+    }
+
+    /// The register holds so many new words, all 0, up to 1,023.
+    ///
+    /// # Errors
+    /// [`Error::Register`] for [`R0`](crate::R0), [`Error::Size`] and [`Error::Full`].
+    pub fn make_words(&mut self, dest: Register, length: u32) -> Result<(), Error> {
+        done(unsafe { raw::lxr_mutator_words_new(self.raw(), dest.number(), length) })
+    }
+
+    /// The words that the register holds.
+    pub fn words(&mut self, base: Register) -> Words<&mut Mutator<'h>> {
+        Words::new(self, base)
+    }
+
     /// Does operations in order, each as the method of its name, up to the first that is refused. Pauses may come between, and other threads
     /// see what is done so far.
     ///
@@ -553,7 +582,7 @@ impl Mutator<'_> {
         Ok(answer)
     }
 
-    fn raw(&self) -> *mut raw::Mutator {
+    pub(crate) fn raw(&self) -> *mut raw::Mutator {
         self.handle.as_ptr()
     }
 }

@@ -46,6 +46,8 @@ pub const LXR_MOST_WORDS: u32 = 1023;
 pub const LXR_MOST_BODY_BLOCKS: u32 = 128;
 pub const LXR_MOST_BLOCKS: u32 = 65536;
 pub const LXR_BLOCK_WORDS: u32 = 4096;
+pub const LXR_MOST_ELEMENTS: u32 = 1046529;
+pub const LXR_MOST_LENGTH: u32 = 524287;
 
 pub const LXR_PACE_NEVER: u64 = 0;
 pub const LXR_PACE_ROOM: u64 = u64::MAX;
@@ -135,6 +137,18 @@ extern "C" {
     pub fn lxr_large_put(heap: *mut Handle, base: u32, index: u32, word: u64) -> Code;
     pub fn lxr_large_read(heap: *const Handle, base: u32, index: u32, into: *mut u64, count: usize) -> Code;
     pub fn lxr_large_write(heap: *mut Handle, base: u32, index: u32, from: *const u64, count: usize) -> Code;
+    pub fn lxr_array_new(heap: *mut Handle, dest: u32, length: u32) -> Code;
+    pub fn lxr_array_length(heap: *const Handle, base: u32, length: *mut u32) -> Code;
+    pub fn lxr_array_load(heap: *mut Handle, dest: u32, base: u32, index: u32) -> Code;
+    pub fn lxr_array_store(heap: *mut Handle, base: u32, index: u32, source: u32) -> Code;
+    pub fn lxr_array_fill(heap: *mut Handle, base: u32, first: u32, count: u32, source: u32) -> Code;
+    pub fn lxr_array_copy(heap: *mut Handle, to: u32, at: u32, from: u32, first: u32, count: u32) -> Code;
+    pub fn lxr_words_new(heap: *mut Handle, dest: u32, length: u32) -> Code;
+    pub fn lxr_words_length(heap: *const Handle, base: u32, length: *mut u32) -> Code;
+    pub fn lxr_words_get(heap: *const Handle, base: u32, index: u32, word: *mut u64) -> Code;
+    pub fn lxr_words_put(heap: *mut Handle, base: u32, index: u32, word: u64) -> Code;
+    pub fn lxr_words_read(heap: *const Handle, base: u32, first: u32, words: *mut u64, count: usize) -> Code;
+    pub fn lxr_words_write(heap: *mut Handle, base: u32, first: u32, words: *const u64, count: usize) -> Code;
     pub fn lxr_pause(heap: *mut Handle) -> Code;
     pub fn lxr_collect(heap: *mut Handle) -> Code;
     pub fn lxr_set_pace(heap: *mut Handle, bytes: u64) -> Code;
@@ -225,6 +239,19 @@ extern "C" {
     pub fn lxr_mutator_load_many(mutator: *mut Mutator, base: u32, first: u32, registers: *const u32, count: usize) -> Code;
     pub fn lxr_mutator_store_many(mutator: *mut Mutator, base: u32, first: u32, registers: *const u32, count: usize) -> Code;
     pub fn lxr_mutator_apply(mutator: *mut Mutator, operations: *mut Operation, count: usize, done: *mut usize) -> Code;
+    pub fn lxr_mutator_array_new(mutator: *mut Mutator, dest: u32, length: u32) -> Code;
+    pub fn lxr_mutator_array_length(mutator: *mut Mutator, base: u32, length: *mut u32) -> Code;
+    pub fn lxr_mutator_array_load(mutator: *mut Mutator, dest: u32, base: u32, index: u32) -> Code;
+    pub fn lxr_mutator_array_store(mutator: *mut Mutator, base: u32, index: u32, source: u32) -> Code;
+    pub fn lxr_mutator_array_swap(mutator: *mut Mutator, dest: u32, base: u32, index: u32, source: u32) -> Code;
+    pub fn lxr_mutator_array_fill(mutator: *mut Mutator, base: u32, first: u32, count: u32, source: u32) -> Code;
+    pub fn lxr_mutator_array_copy(mutator: *mut Mutator, to: u32, at: u32, from: u32, first: u32, count: u32) -> Code;
+    pub fn lxr_mutator_words_new(mutator: *mut Mutator, dest: u32, length: u32) -> Code;
+    pub fn lxr_mutator_words_length(mutator: *mut Mutator, base: u32, length: *mut u32) -> Code;
+    pub fn lxr_mutator_words_get(mutator: *mut Mutator, base: u32, index: u32, word: *mut u64) -> Code;
+    pub fn lxr_mutator_words_put(mutator: *mut Mutator, base: u32, index: u32, word: u64) -> Code;
+    pub fn lxr_mutator_words_read(mutator: *mut Mutator, base: u32, first: u32, words: *mut u64, count: usize) -> Code;
+    pub fn lxr_mutator_words_write(mutator: *mut Mutator, base: u32, first: u32, words: *const u64, count: usize) -> Code;
     pub fn lxr_mutator_pause(mutator: *mut Mutator) -> Code;
     pub fn lxr_mutator_collect(mutator: *mut Mutator) -> Code;
 }
