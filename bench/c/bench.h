@@ -5,6 +5,7 @@
 #include <stdint.h>
 #include <stdio.h>
 #include <stdlib.h>
+#include <string.h>
 #include <time.h>
 
 /* The processor's time of this process, in nanoseconds: other programs on the machine don't count. */
@@ -14,28 +15,49 @@ static inline double now(void) {
     return (double)at.tv_sec * 1e9 + (double)at.tv_nsec;
 }
 
-/* Prints how many nanoseconds one of `count` calls takes, of the best of some rounds. Each round counts `i` from 0 on; `before` isn't
- * timed. */
+/* The call whose instructions are counted from without (bench/instructions), and how many tenths of a round it is made; no call where all
+ * are timed. */
+static const char *counted_call;
+static uint32_t counted_tenths;
+
+static inline int is_counted(const char *name) { return counted_call && strcmp(counted_call, name) == 0; }
+
+/* Of a call that is counted there is one round, and of the others none. */
+static inline int rounds_of(const char *name, int rounds) { return counted_call ? is_counted(name) : rounds; }
+
+static inline uint32_t calls_of(uint32_t count) { return counted_call ? count / 10 * counted_tenths : count; }
+
+static inline void print_measure(const char *name, double best, uint32_t calls) {
+    if (!counted_call) printf("%s\t%.2f\n", name, best);
+    if (is_counted(name)) printf("%u\n", calls);
+}
+
+/* Prints how many nanoseconds one of `count` calls takes, of the best of some rounds; or makes the calls that are counted. Each round counts
+ * `i` from 0 on; `before` isn't timed. */
 #define MEASURE_AFTER(name, rounds, count, before, call) \
     do { \
         double best = 1e18; \
-        for (int round = 0; round < (rounds); round++) { \
+        const uint32_t calls = calls_of(count); \
+        for (int round = rounds_of(name, rounds); round > 0; round--) { \
             before; \
             double begun = now(); \
-            for (uint32_t i = 0; i < (uint32_t)(count); i++) { \
+            for (uint32_t i = 0; i < calls; i++) { \
                 call; \
                 __asm__ volatile("" ::: "memory"); \
             } \
-            double taken = (now() - begun) / (double)(count); \
+            double taken = (now() - begun) / (double)calls; \
             if (taken < best) best = taken; \
         } \
-        printf("%s\t%.2f\n", name, best); \
+        print_measure(name, best, calls); \
     } while (0)
 
 #define MEASURE(name, rounds, count, call) MEASURE_AFTER(name, rounds, count, , call)
 
 /* Of a call that takes nanoseconds. Short rounds find a quiet moment of the machine. */
 #define MEASURE_CALL(name, call) MEASURE(name, 200, 100000, call)
+
+/* What is written to a place may be read after each call, so that no compiler leaves it out where it inlines the call. */
+#define KEEP(place) __asm__ volatile("" ::"r"(&(place)) : "memory")
 
 /* Numbers in no order, of which each round has the same. */
 static inline uint32_t draw(uint32_t end) {

@@ -2,6 +2,7 @@
  * calls_lxr.c: what the calls of lxr.h cost. SPDX: MIT OR Apache-2.0
  *
  * usage: calls_lxr calls [REGISTERS]   each call, a line with its name and its nanoseconds
+ *        calls_lxr count NAME TENTHS   this call alone, so many tenths of a round; prints how many calls those are
  *        calls_lxr new LIVE EVERY      a new object beside LIVE others: dropped at once, and put in the place of one of them
  *        calls_lxr pauses LIVE EVERY   the pauses while objects are replaced so
  *
@@ -11,7 +12,6 @@
 #include "bench.h"
 
 #include <lxr.h>
-#include <string.h>
 
 enum { WORLD, TOP, TABLE, MADE, OBJECT, OTHER, BODY, SPARE };
 
@@ -118,6 +118,13 @@ static void measure_calls(void) {
     static uint64_t words[LXR_BLOCK_WORDS];
     uint64_t word = 0;
     uint32_t answer = 0, refs, data, blocks;
+    KEEP(heap);
+    KEEP(word);
+    KEEP(answer);
+    KEEP(refs);
+    KEEP(data);
+    KEEP(blocks);
+    KEEP(words);
     open_heap(64, 64, LXR_PACE_NEVER);
     must(lxr_new(&heap, OBJECT, 4, 4));
     must(lxr_new(&heap, OTHER, 4, 4));
@@ -208,6 +215,10 @@ static void measure_pauses(uint32_t live, const char *every) {
 int main(int count, char **words) {
     if (count >= 2 && count <= 3 && strcmp(words[1], "calls") == 0) {
         if (count == 3) registers = (uint32_t)strtoul(words[2], NULL, 10);
+        measure_calls();
+    } else if (count == 4 && strcmp(words[1], "count") == 0) {
+        counted_call = words[2];
+        counted_tenths = (uint32_t)strtoul(words[3], NULL, 10);
         measure_calls();
     } else if (count == 4) {
         uint32_t live = (uint32_t)strtoul(words[2], NULL, 10);

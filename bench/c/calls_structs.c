@@ -1,13 +1,11 @@
 /*
  * calls_structs.c: what plain structs of C cost, by malloc and free or by Boehm's collector (-DBOEHM). SPDX: MIT OR Apache-2.0
  *
- * usage: calls_structs calls | new LIVE | pauses LIVE      as calls_lxr.c has it; pauses by Boehm's collector alone
+ * usage: calls_structs calls | count NAME TENTHS | new LIVE | pauses LIVE      as calls_lxr.c has it; pauses by Boehm's collector alone
  *
  * Registers are an array of pointers, as a runtime has them, so that both do the same work: read a register, then the object.
  */
 #include "bench.h"
-
-#include <string.h>
 
 struct object {
     struct object *refs[2];
@@ -135,6 +133,10 @@ static void measure_pauses(uint32_t live) {
 
 int main(int count, char **words) {
     if (count == 2 && strcmp(words[1], "calls") == 0) {
+        measure_calls();
+    } else if (count == 4 && strcmp(words[1], "count") == 0) {
+        counted_call = words[2];
+        counted_tenths = (uint32_t)strtoul(words[3], NULL, 10);
         measure_calls();
     } else if (count == 3) {
         uint32_t live = (uint32_t)strtoul(words[2], NULL, 10);

@@ -58,6 +58,7 @@ int main(int count, char **words) {
     }
     lxr_settings settings = LXR_SETTINGS(blocks, 1);
     settings.pace = LXR_PACE_NEVER;
+    settings.grow = 0;
     must(lxr_open(&heap, &settings));
     make_list(OLD, live);
     must(lxr_collect(&heap));

@@ -8,7 +8,7 @@
 #include <stdlib.h>
 #include <string.h>
 
-enum { STEP = 16, HEADER = 8, FIELD = 8, LEAST_BETWEEN = 65536 };
+enum { STEP = 16, HEADER = 8, FIELD = 8, PART = OBJECT_MOST, LEAST_BETWEEN = 65536 };
 
 typedef struct object {
     uint32_t references, words;
@@ -25,8 +25,17 @@ static Object **references_of(Object *object) { return (Object **)(void *)(objec
 
 static Word *words_of(Object *object) { return (Word *)(void *)(references_of(object) + object->references); }
 
+static uint64_t round_up(uint64_t bytes, uint64_t step) { return (bytes + step - 1) / step * step; }
+
+static uint64_t bytes_of_fields(uint64_t fields) { return round_up(HEADER + FIELD * fields, STEP); }
+
+/* Many words are a body of whole blocks, with a word for their number. More references than an object has are those of parts, to which a root refers,
+ * with a word for their number too. */
 static uint64_t bytes_of(const Object *object) {
-    return (HEADER + FIELD * ((uint64_t)object->references + object->words) + STEP - 1) / STEP * STEP;
+    const uint64_t parts = object->references / PART, rest = object->references % PART;
+    if (object->words > OBJECT_MOST) return round_up(FIELD * (object->words + (uint64_t)1), BLOCK_BYTES);
+    if (object->references <= OBJECT_MOST) return bytes_of_fields((uint64_t)object->references + object->words);
+    return parts * bytes_of_fields(PART) + (rest ? bytes_of_fields(rest) : 0) + bytes_of_fields(1 + parts + !!rest);
 }
 
 static void reach(Object *object) {
@@ -109,14 +118,40 @@ void memory_load_many(unsigned base, unsigned first, const uint32_t *into, size_
     for (size_t i = 0; i < count; i++) registers[into[i]] = references_of(registers[base])[first + i];
 }
 
-bool memory_big(unsigned dest, unsigned blocks) { return make(dest, 0, (size_t)blocks * BODY_BLOCK_WORDS); }
+bool memory_words(unsigned dest, size_t count) { return make(dest, 0, count); }
 
-void memory_read(unsigned base, size_t index, Word *into, size_t count) {
+void memory_read(unsigned base, size_t all, size_t index, Word *into, size_t count) {
+    (void)all;
     memcpy(into, words_of(registers[base]) + index, count * sizeof *into);
 }
 
-void memory_write(unsigned base, size_t index, const Word *from, size_t count) {
+void memory_write(unsigned base, size_t all, size_t index, const Word *from, size_t count) {
+    (void)all;
     memcpy(words_of(registers[base]) + index, from, count * sizeof *from);
+}
+
+Word memory_word(unsigned base, size_t all, size_t index) {
+    (void)all;
+    return words_of(registers[base])[index];
+}
+
+void memory_set_word(unsigned base, size_t all, size_t index, Word word) {
+    (void)all;
+    words_of(registers[base])[index] = word;
+}
+
+bool memory_array(unsigned dest, size_t length) { return make(dest, length, 0); }
+
+void memory_array_load(unsigned dest, unsigned base, size_t index) { registers[dest] = references_of(registers[base])[index]; }
+
+void memory_array_store(unsigned base, size_t index, unsigned source) { references_of(registers[base])[index] = registers[source]; }
+
+void memory_array_fill(unsigned base, size_t first, size_t count, unsigned source) {
+    for (size_t i = first; i < first + count; i++) references_of(registers[base])[i] = registers[source];
+}
+
+void memory_array_copy(unsigned to, size_t at, unsigned from, size_t first, size_t count) {
+    memmove(references_of(registers[to]) + at, references_of(registers[from]) + first, count * sizeof(Object *));
 }
 
 void memory_pause(void) { mark(); }

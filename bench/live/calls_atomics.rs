@@ -2,6 +2,7 @@
 //! SPDX: MIT OR Apache-2.0
 //!
 //! usage: calls_atomics THREADS
+//!        calls_atomics count NAME TENTHS      this call alone, in one thread, so many tenths of a round; prints how many calls those are
 //!
 //! A line for each call: its name, and the nanoseconds that it takes in each thread, of the best of some rounds. An object is
 //! a header and its fields, and each thread has objects of its own. As the library does it, an operation begins with a load of
@@ -166,8 +167,22 @@ const MEASURES: [Measure; 9] = [
 /// Rounds of each measure.
 const ROUNDS: u32 = 200;
 
+/// A call whose instructions are counted from without: its name, and how many tenths of a round it is made.
+struct Counted {
+    name: String,
+    tenths: u32,
+}
+
+/// The rounds of a call, and how many calls each has: where one is counted, it has one round, and the others none.
+fn rounds_of(name: &str, count: u32, counted: Option<&Counted>) -> (u32, u32) {
+    match counted {
+        None => (ROUNDS, count),
+        Some(it) => (u32::from(it.name == name), count / 10 * it.tenths),
+    }
+}
+
 /// What one thread does: in each round all begin together.
-fn measure_all(number: usize, words: &Words, barrier: &Barrier) {
+fn measure_all(number: usize, words: &Words, barrier: &Barrier, counted: Option<&Counted>) {
     let first = 2 + number * LANE;
     let mut m = Mutator { registers: [0; 16], first, next: first, end: first + LANE, serial: 0, log: Vec::with_capacity(65536) };
     m.new(words, 1, 2, 2);
@@ -179,7 +194,8 @@ fn measure_all(number: usize, words: &Words, barrier: &Barrier) {
     }
     for (name, count, call) in MEASURES {
         let mut best = f64::INFINITY;
-        for _ in 0..ROUNDS {
+        let (rounds, calls) = rounds_of(name, count, counted);
+        for _ in 0..rounds {
             let table = m.registers[3] as usize;
             for word in &words.unlogged[table / 64..=(table + usize::from(TABLE)) / 64] {
                 word.store(!0, SeqCst);
@@ -191,20 +207,27 @@ fn measure_all(number: usize, words: &Words, barrier: &Barrier) {
             }
             barrier.wait();
             let begun = Instant::now();
-            for at in 0..count {
+            for at in 0..calls {
                 call(&mut m, words, (at & 0xffff) as u16);
             }
             barrier.wait();
-            best = best.min(begun.elapsed().as_nanos() as f64 / f64::from(count));
+            best = best.min(begun.elapsed().as_nanos() as f64 / f64::from(calls));
         }
-        if number == 0 {
-            println!("{name}\t{best:.1}");
+        match counted {
+            None if number == 0 => println!("{name}\t{best:.1}"),
+            Some(_) if rounds > 0 => println!("{calls}"),
+            _ => {}
         }
     }
 }
 
 fn main() {
-    let threads: usize = std::env::args().nth(1).and_then(|word| word.parse().ok()).unwrap_or(1);
+    let given: Vec<String> = std::env::args().skip(1).collect();
+    let counted = match given.as_slice() {
+        [count, name, tenths] if count == "count" => tenths.parse().ok().map(|tenths| Counted { name: name.clone(), tenths }),
+        _ => None,
+    };
+    let threads: usize = given.first().and_then(|word| word.parse().ok()).unwrap_or(1);
     let all = 2 + threads * LANE;
     let words = Words {
         pause: AtomicU64::new(0),
@@ -214,8 +237,8 @@ fn main() {
     let barrier = Barrier::new(threads);
     thread::scope(|scope| {
         for number in 0..threads {
-            let (words, barrier) = (&words, &barrier);
-            scope.spawn(move || measure_all(number, words, barrier));
+            let (words, barrier, counted) = (&words, &barrier, counted.as_ref());
+            scope.spawn(move || measure_all(number, words, barrier, counted));
         }
     });
 }

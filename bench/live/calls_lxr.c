@@ -1,12 +1,14 @@
 /* calls_lxr.c: what the calls of lxr_threads.h cost. SPDX: MIT OR Apache-2.0
  *
  * usage: calls_lxr THREADS
+ *        calls_lxr count NAME TENTHS      this call alone, in one thread, so many tenths of a round; prints how many calls those are
  *
  * A line for each call: its name, and the nanoseconds that it takes in each thread, of the best of some rounds, which all threads
  * begin together. A pause is made before each round. Each thread has objects of its own. */
 #include <lxr_threads.h>
 #include <pthread.h>
 #include <stdatomic.h>
+#include <string.h>
 
 #include "work.h"
 
@@ -15,6 +17,10 @@ enum { WORLD, OBJECT, OTHER, TABLE, FOUND, MADE };
 enum { BLOCKS = 1024, MOST_THREADS = 16, ROUNDS = 200, CALLS = 20000 };
 
 static uint32_t count;
+
+/* The call whose instructions are counted from without (bench/instructions); none where all are timed. */
+static const char *counted_call;
+static uint32_t counted_tenths;
 static lxr_shared_heap *heap;
 static pthread_barrier_t barrier;
 static atomic_uint begun;
@@ -59,24 +65,35 @@ static void keep_best(double *best) {
     if (most < *best) *best = most;
 }
 
+/* Of a call that is counted there is one round, and of the others none. */
+static int rounds_of(const char *name) { return counted_call ? strcmp(counted_call, name) == 0 : ROUNDS; }
+
+static uint32_t calls_of(uint32_t calls) { return counted_call ? calls / 10 * counted_tenths : calls; }
+
+static void print_measure(const char *name, double best, uint32_t calls) {
+    if (!counted_call) printf("%s\t%.1f\n", name, best);
+    if (counted_call && strcmp(counted_call, name) == 0) printf("%u\n", calls);
+}
+
 /* A measure: `first` isn't timed, and `call` has its number from 0 on in `i`. */
-#define MEASURE(name, calls, first, call) \
+#define MEASURE(name, most, first, call) \
     do { \
         double best = 1e18; \
-        for (int at = 0; at < ROUNDS; at++) { \
+        const uint32_t calls = calls_of(most); \
+        for (int at = rounds_of(name); at > 0; at--) { \
             pause_before(mutator, number); \
             first; \
             begin_together(mutator, ++round); \
             uint64_t from = clock_now(); \
-            for (uint32_t i = 0; i < (uint32_t)(calls); i++) { \
+            for (uint32_t i = 0; i < calls; i++) { \
                 call; \
                 __asm__ volatile("" ::: "memory"); \
             } \
-            taken[number] = (double)(clock_now() - from) / (double)(calls); \
+            taken[number] = (double)(clock_now() - from) / (double)calls; \
             meet(mutator); \
             if (!number) keep_best(&best); \
         } \
-        if (!number) printf("%s\t%.1f\n", name, best); \
+        if (!number) print_measure(name, best, calls); \
     } while (0)
 
 /* So that further stores find their references logged. */
@@ -109,13 +126,20 @@ static void *run(void *given) {
 
 int main(int words_count, char **words) {
     pthread_t started[MOST_THREADS];
-    count = words_count == 2 ? (uint32_t)strtoul(words[1], NULL, 10) : 0;
+    if (words_count == 4 && strcmp(words[1], "count") == 0) {
+        counted_call = words[2];
+        counted_tenths = (uint32_t)strtoul(words[3], NULL, 10);
+        count = 1;
+    } else {
+        count = words_count == 2 ? (uint32_t)strtoul(words[1], NULL, 10) : 0;
+    }
     if (count < 1 || count > MOST_THREADS) return 2;
     lxr_shared_heap_settings settings = LXR_SHARED_HEAP_SETTINGS(BLOCKS, count);
     settings.helpers = 0;
     settings.log = LXR_MOST_LOG;
     settings.every = LXR_MOST_EVERY;
     settings.pace = LXR_PACE_NEVER;
+    settings.grow = 0;
     must(lxr_shared_heap_open(&heap, &settings));
     pthread_barrier_init(&barrier, NULL, count);
     for (uintptr_t at = 0; at < count; at++) pthread_create(&started[at], NULL, run, (void *)at);

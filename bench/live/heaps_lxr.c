@@ -46,6 +46,7 @@ static void open_heap(uint32_t blocks, uint32_t live, uint32_t trace) {
     settings.trace = trace;
     settings.within = 1;
     settings.pace = LXR_PACE_NEVER;
+    settings.grow = 0;
     must(lxr_shared_heap_open(&heap, &settings));
     must(lxr_mutator_enter(heap, &mutator));
     make_lists(OLD, OLD, live);

@@ -108,6 +108,7 @@ static lxr_shared_heap_settings settings_of(const char *every) {
     settings.trace = pauses_between_traces(settings.every);
     settings.within = settings.trace / 2;
     settings.pace = LXR_PACE_NEVER;
+    settings.grow = 0;
     return settings;
 }
 

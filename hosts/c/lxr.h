@@ -96,8 +96,11 @@ typedef uint32_t lxr_code;
 /* ---- A heap ---- */
 
 /* Paces of a heap, beside numbers of bytes: how many bytes of new objects are made between two pauses. */
-#define LXR_PACE_NEVER 0u         /* any number: pauses come where they are asked for or needed */
+#define LXR_PACE_NEVER 0u         /* any number: pauses come where they are asked for or needed, or by the room */
 #define LXR_PACE_ROOM  UINT64_MAX /* half of what the last pause left in wholly free blocks, but at least 64 KB and at most 1 MB */
+
+#define LXR_GROW      100u   /* hundredths by which the room grows, by LXR_SETTINGS: twice what lives */
+#define LXR_MOST_GROW 10000u /* the most of them */
 
 /*
  * What a heap is made of. The first word is the size of it all, so that a program that was compiled with an older, shorter lxr_settings
@@ -105,6 +108,15 @@ typedef uint32_t lxr_code;
  *
  * Where `registers` are at most 254, the heap has two more for the library, by which arrays are gone along. With 255 or 256 of them an array has
  * at most 1,023 elements, and none is copied.
+ *
+ * `blocks` are reserved. `room` is how many of them are in use before the library collects: a pause that is due collects, where more are. Where the
+ * room isn't all, a pause is due by it too: once the bytes of new objects are as many as it had left, but at least 64 KB, and at once where a pause
+ * left more in use. By `grow` the library sets the room by itself, after each collecting pause: to the blocks that this left in use and so many
+ * hundredths more, but at least 64, and at most all. So a heap takes what it needs of the machine's memory, and LXR_E_FULL comes, as ever, only where
+ * all that is reserved is full. Where `grow` is 0 the room stays as the host has set it; then what a collecting pause left in use and a quarter more
+ * counts as the room, where that is more, so that a room which is too small makes no pause after pause: a `grow` of a few hundredths has no such
+ * care. Room is told in bytes of objects, so where these leave blocks half empty, half as many blocks again may be in use by then. Bodies have
+ * blocks of their own, and no room.
  */
 typedef struct lxr_settings {
     uint64_t size;        /* sizeof(lxr_settings) */
@@ -113,12 +125,14 @@ typedef struct lxr_settings {
     uint64_t pace;        /* as of lxr_set_pace */
     uint32_t registers;   /* registers, 16 to 256; 0: 16, as of settings of version 0.2, which end before it */
     uint32_t unused;      /* nothing is said here */
+    uint32_t room;        /* as of lxr_set_room, up to all blocks; 0: all, as of settings that end before it */
+    uint32_t grow;        /* as of lxr_set_grow; 0, as of those settings, for never */
 } lxr_settings;
 
 /* Settings that mostly do, for so many blocks: sixteen registers; plain pauses come by the room there is, and a collecting one where it is
- * needed. */
+ * needed: at first where all blocks are in use, and after a collecting pause where twice as many are as that left. */
 #define LXR_SETTINGS(blocks, body_blocks) \
-    { sizeof(lxr_settings), (blocks), (body_blocks), LXR_PACE_ROOM, LXR_REGISTERS, 0 }
+    { sizeof(lxr_settings), (blocks), (body_blocks), LXR_PACE_ROOM, LXR_REGISTERS, 0, 0, LXR_GROW }
 
 /* The version of the archive: 65,536 times the major, 256 times the minor, and the patch number. */
 uint32_t lxr_version(void);
@@ -127,8 +141,8 @@ uint32_t lxr_version(void);
  * Opens a heap of these settings. All memory that the heap will ever use is reserved here, and returned by lxr_close; no other call asks for
  * memory. What is reserved is written as it is used, 32 KB at a time, so a system that promises more than it has may find out later, and end
  * the process then.
- * Codes: LXR_E_IN_USE; LXR_E_SIZE, where a number of blocks or of registers is out of its range, or `size` is none that the archive knows;
- * LXR_E_MEMORY.
+ * Codes: LXR_E_IN_USE; LXR_E_SIZE, where a number of blocks or of registers, the room or its growth is out of its range, or `size` is none that
+ * the archive knows; LXR_E_MEMORY.
  * Cost: grows with both numbers of blocks; some 27 bytes are written for each of `blocks`, and one for each of `body_blocks`.
  */
 lxr_code lxr_open(lxr_heap *heap, const lxr_settings *settings);
@@ -142,9 +156,10 @@ lxr_code lxr_close(lxr_heap *heap);
 /* ---- Objects ---- */
 
 /*
- * Register `dest` holds a new object with `refs` references, all nil, and `words` data words, all 0. A plain pause is made first where one
- * is due by the pace, and a collecting one where there is no room. LXR_E_FULL comes only right after such a pause, and only where the
- * objects that can be reached can leave no run of free lines that fits.
+ * Register `dest` holds a new object with `refs` references, all nil, and `words` data words, all 0. A pause is made first where one is due, by
+ * the pace or by the room, which collects where more blocks are in use than the room has; and a collecting one where there is no place. LXR_E_FULL
+ * comes only right after a collecting pause, and only where the objects that can be reached can leave no run of free lines that fits, of all that
+ * is reserved.
  * Codes: LXR_E_NO_HEAP, LXR_E_REGISTER, LXR_E_SIZE, LXR_E_FULL. Cost: grows with the size of the object; and that of a pause, where one is
  * made.
  */
@@ -449,23 +464,39 @@ lxr_code lxr_pause(lxr_heap *heap);
 lxr_code lxr_collect(lxr_heap *heap);
 
 /*
- * From now on a plain pause is made before a lxr_new, lxr_new_with or lxr_large_new, once so many `bytes` of objects were made since the
- * last pause; or by LXR_PACE_NEVER or LXR_PACE_ROOM. An object has the bytes of its header, 8, and of its references and data words, 8
- * each, rounded up to sixteen; and a large one sixteen, and those of its body. Small numbers keep pauses short, and reclaimed lines warm in
- * the caches; but each pause costs some time by itself, which grows with what lives.
- * Code: LXR_E_NO_HEAP. Cost: constant, but for LXR_PACE_ROOM, whose cost grows with the number of blocks.
+ * From now on a pause is made before a lxr_new, lxr_new_with or lxr_large_new, once so many `bytes` of objects were made since the last
+ * pause; or by LXR_PACE_NEVER or LXR_PACE_ROOM. It is a plain one, but where the room is exceeded (lxr_set_room). An object has the bytes of
+ * its header, 8, and of its references and data words, 8 each, rounded up to sixteen; and a large one sixteen, and those of its body. Small
+ * numbers keep pauses short, and reclaimed lines warm in the caches; but each pause costs some time by itself, which grows with what lives.
+ * Code: LXR_E_NO_HEAP. Cost: grows with the number of blocks.
  */
 lxr_code lxr_set_pace(lxr_heap *heap, uint64_t bytes);
 
+/*
+ * From now on a pause that is due collects where more than so many blocks are in use, up to as many as are reserved; 0: all, so that only an object
+ * that finds no place makes one collect. Up and down, at any time: where more are in use already, the next new object has a collecting pause before
+ * it, and nothing is refused. Where `grow` isn't 0, the next collecting pause sets the room anew. lxr_count tells the room by LXR_COUNT_ROOM.
+ * Codes: LXR_E_NO_HEAP; LXR_E_SIZE, where fewer are reserved. Cost: grows with the number of blocks.
+ */
+lxr_code lxr_set_room(lxr_heap *heap, uint32_t blocks);
+
+/*
+ * From now on each collecting pause sets the room to the blocks that it leaves in use and so many hundredths more, at least 64 blocks and at most
+ * all; 0: none does, and the room stays as it is. The room of now stays until the next collecting pause.
+ * Codes: LXR_E_NO_HEAP; LXR_E_SIZE, above LXR_MOST_GROW. Cost: constant.
+ */
+lxr_code lxr_set_grow(lxr_heap *heap, uint32_t hundredths);
+
 /* What lxr_count tells. */
-#define LXR_COUNT_PAUSES          0u /* pauses since the heap was opened */
-#define LXR_COUNT_PROMOTED        1u /* by the last pause: objects made since the pause before that were kept */
-#define LXR_COUNT_DEAD            2u /* by the last pause: objects that counts reclaimed */
-#define LXR_COUNT_STUCK           3u /* by the last pause: objects whose count has reached 15, where it stands from now on */
-#define LXR_COUNT_SWEPT           4u /* by the last pause: objects that only a collecting pause reclaims, of cycles or stuck */
-#define LXR_COUNT_LIVE            5u /* objects that the last pause left, and those made since; without the world */
-#define LXR_COUNT_FREE_BLOCKS     6u /* wholly free blocks for objects */
-#define LXR_COUNT_FREE_BODY_BYTES 7u /* bytes of the free blocks for bodies */
+#define LXR_COUNT_PAUSES          0u  /* pauses since the heap was opened */
+#define LXR_COUNT_PROMOTED        1u  /* by the last pause: objects made since the pause before that were kept */
+#define LXR_COUNT_DEAD            2u  /* by the last pause: objects that counts reclaimed */
+#define LXR_COUNT_STUCK           3u  /* by the last pause: objects whose count has reached 15, where it stands from now on */
+#define LXR_COUNT_SWEPT           4u  /* by the last pause: objects that only a collecting pause reclaims, of cycles or stuck */
+#define LXR_COUNT_LIVE            5u  /* objects that the last pause left, and those made since; without the world */
+#define LXR_COUNT_FREE_BLOCKS     6u  /* wholly free blocks for objects */
+#define LXR_COUNT_FREE_BODY_BYTES 7u  /* bytes of the free blocks for bodies */
+#define LXR_COUNT_ROOM            13u /* blocks of the room, as the host or the library set it last */
 
 /*
  * `*number` becomes one of the numbers above.

@@ -97,8 +97,8 @@ lxr_code lxr_passes_resume(lxr_passes *heap);
 lxr_code lxr_passes_pause(lxr_passes *heap);
 
 /*
- * What lxr_passes_count tells besides LXR_COUNT_PAUSES, _PROMOTED, _DEAD, _STUCK, _SWEPT and _LAST_KIND of lxr.h. LXR_COUNT_PAUSES is the
- * number of the last pause, counted from the last renewal of names before it: right after a pause that renews names itself it is still
+ * What lxr_passes_count tells besides LXR_COUNT_PAUSES, _PROMOTED, _DEAD, _STUCK, _SWEPT, _FREE_BLOCKS and _LAST_KIND of lxr.h. LXR_COUNT_PAUSES
+ * is the number of the last pause, counted from the last renewal of names before it: right after a pause that renews names itself it is still
  * counted from the renewal before that, and 1 after the next pause.
  */
 /*
@@ -108,7 +108,7 @@ lxr_code lxr_passes_pause(lxr_passes *heap);
 #define LXR_COUNT_ASKED 12u
 
 /*
- * `*number` becomes one of these numbers of the last pause; before the first all are 0.
+ * `*number` becomes one of these numbers of the last pause; before the first all but the free blocks are 0.
  * Codes: LXR_E_NO_HEAP, LXR_E_WHAT, LXR_E_EPOCH, where an epoch is open or the heap is lost. Cost: constant.
  */
 lxr_code lxr_passes_count(const lxr_passes *heap, uint32_t what, uint64_t *number);

@@ -42,8 +42,10 @@ enum {
     WORD = 8,
     HEADER = 8,
     GRAIN = 16,
-    LEAST_ROOM = 2 * BLOCK,
-    MOST_ROOM = 32 * BLOCK,
+    LEAST_PACE = 2 * BLOCK,
+    MOST_PACE = 32 * BLOCK,
+
+    LEAST_ROOM = 64, /* blocks of a room that grows */
 
     /* From so many operations of some mutator on, as LXR_COUNT_ASKED counts them, a collecting pause is made, so that names are renewed; and again after
      * so many more. */
@@ -70,9 +72,9 @@ struct helper {
 
 struct lxr_shared_heap {
     pthread_mutex_t lock;
-    pthread_cond_t moved; /* told where an epoch has opened, the heap is lost, or it is to be closed */
-    lxr_shared_heap_settings settings;
-    uint64_t pace; /* bytes of objects between two pauses; the greatest number for no pace */
+    pthread_cond_t moved;              /* told where an epoch has opened, the heap is lost, or it is to be closed */
+    lxr_shared_heap_settings settings; /* of these `room` and `grow` are guarded */
+    uint64_t pace;                     /* bytes of objects between two pauses, as the settings say; the greatest number for no pace */
 
     /* Guarded. */
     lxr_passes passes;
@@ -88,6 +90,9 @@ struct lxr_shared_heap {
     uint64_t paused, collected; /* pauses, and collecting ones, since it was opened */
     uint64_t worn;              /* each mutator whose pass leaves collects, once some mutator was ordered so many operations .. */
     bool is_worn;               /* .. as by the last pause */
+    uint32_t used;              /* blocks in use, as the last pause left them */
+    uint32_t most;              /* room: each mutator whose pass leaves collects where more are; it is that of the settings, or more */
+    uint64_t due;               /* bytes of objects until the next pause is due: by the pace or by the room */
     struct place places[LXR_MOST_MUTATORS];
     struct helper helpers[LXR_MOST_HELPERS];
 };
@@ -121,6 +126,47 @@ static uint64_t nanoseconds(struct timespec from, struct timespec to) {
     return (uint64_t)(to.tv_sec - from.tv_sec) * 1000000000u + (uint64_t)to.tv_nsec - (uint64_t)from.tv_nsec;
 }
 
+/* The bytes of objects until a pause is due: those of the pace, or the room that is left, where there is room for less than all. */
+static uint64_t due_bytes(const lxr_shared_heap *heap) {
+    if (heap->most >= heap->settings.blocks) return heap->pace;
+    uint64_t left = heap->used < heap->most ? (uint64_t)(heap->most - heap->used) * BLOCK : 0;
+    if (left < LEAST_PACE) left = LEAST_PACE;
+    return left < heap->pace ? left : heap->pace;
+}
+
+/* So many hundredths more than the blocks in use, but at most all. */
+static uint32_t with_more(const lxr_shared_heap *heap, uint32_t hundredths) {
+    uint64_t more = heap->used + (uint64_t)heap->used * hundredths / 100;
+    return more < heap->settings.blocks ? (uint32_t)more : heap->settings.blocks;
+}
+
+/* Sets the room where it grows: to what the last pause has left and so much more. */
+static void grow_room(lxr_shared_heap *heap) {
+    uint32_t grown = with_more(heap, heap->settings.grow);
+    uint32_t least = heap->settings.blocks < LEAST_ROOM ? heap->settings.blocks : LEAST_ROOM;
+    heap->settings.room = heap->most = grown < least ? least : grown;
+}
+
+/* Where it doesn't grow, a quarter more than a collecting pause has left counts as room at the least. */
+static void keep_room(lxr_shared_heap *heap) {
+    uint32_t quarter_more = with_more(heap, 25);
+    heap->most = heap->settings.room < quarter_more ? quarter_more : heap->settings.room;
+}
+
+/* Notes what the last pause has left in use, and sets the room by it after a collecting pause and each end of a trace. */
+static void note_room(lxr_shared_heap *heap) {
+    uint64_t free_blocks = 0;
+    lxr_passes_count(&heap->passes, LXR_COUNT_FREE_BLOCKS, &free_blocks);
+    heap->used = heap->settings.blocks - (uint32_t)free_blocks;
+    bool collects = heap->kind == LXR_KIND_COLLECT;
+    if (heap->settings.grow) {
+        if (collects || heap->kind == LXR_KIND_END) grow_room(heap);
+    } else if (collects) {
+        keep_room(heap);
+    }
+    heap->due = due_bytes(heap);
+}
+
 /*
  * Notes what the last pauses did, which one call has made: one, which collects where a mutator has asked for that, and further ones, which
  * all collect. Where the number of the last isn't above that of the one before them, names were renewed between the two.
@@ -133,6 +179,7 @@ static void note_pauses(lxr_shared_heap *heap) {
     heap->collected += made - (heap->collecting ? 0 : 1);
     heap->collecting = false;
     lxr_passes_count(&heap->passes, LXR_COUNT_LAST_KIND, &heap->kind);
+    note_room(heap);
     lxr_passes_count(&heap->passes, LXR_COUNT_ASKED, &asked);
     heap->is_worn = asked >= heap->worn;
     if (heap->is_worn) heap->worn = asked + FURTHER;
@@ -206,10 +253,10 @@ static uint32_t grant(const lxr_shared_heap *heap, const struct place *place) {
     return place->done < most ? most - place->done : 1;
 }
 
-/* How many bytes of objects it may make until it asks for a pause: its part of the pace, less what it has made. */
+/* How many bytes of objects it may make until it asks for a pause: its part of those that are due, less what it has made. */
 static uint64_t share(const lxr_shared_heap *heap, const struct place *place) {
-    if (heap->pace == UINT64_MAX) return heap->pace;
-    uint64_t part = heap->pace / heap->entered;
+    if (heap->due == UINT64_MAX) return heap->due;
+    uint64_t part = heap->due / heap->entered;
     return place->made < part ? part - place->made : 0;
 }
 
@@ -220,7 +267,7 @@ static lxr_code take_out(lxr_mutator *mutator) {
     if (code != LXR_OK) return stop(mutator, code);
     heap->away++;
     begin_epoch(heap, place_of(mutator));
-    mutator->collects = heap->is_worn;
+    mutator->collects = heap->is_worn || heap->used > heap->most;
     mutator->left = mutator->granted = mutator->collects ? 1 : grant(heap, place_of(mutator));
     mutator->share = share(heap, place_of(mutator));
     mutator->made = 0;
@@ -1112,21 +1159,23 @@ static uint32_t start_helpers(lxr_shared_heap *heap) {
 
 /* ---- A heap ---- */
 
-/* Reads settings of this version, or of 0.2, which evacuated an eighth of the blocks; whether their size is one of these. */
+/* Reads settings of this version, of those that end before the room, or of 0.2, which evacuated an eighth of the blocks; whether their size is one
+ * of these. */
 static bool read_settings(lxr_shared_heap_settings *settings, const lxr_shared_heap_settings *from) {
-    const size_t first = offsetof(lxr_shared_heap_settings, evacuate);
-    if (from->size != sizeof *settings && from->size != first) return false;
-    settings->registers = 0;
+    const size_t first = offsetof(lxr_shared_heap_settings, evacuate), second = offsetof(lxr_shared_heap_settings, room);
+    if (from->size != sizeof *settings && from->size != first && from->size != second) return false;
+    settings->registers = settings->room = settings->grow = 0;
     memcpy(settings, from, (size_t)from->size);
     if (from->size == first) settings->evacuate = settings->blocks / 8;
     if (settings->registers == 0) settings->registers = LXR_REGISTERS;
+    if (settings->room == 0) settings->room = settings->blocks;
     return true;
 }
 
 static bool are_settings(const lxr_shared_heap_settings *settings) {
     return settings->mutators >= 1 && settings->mutators <= LXR_MOST_MUTATORS && settings->helpers <= LXR_MOST_HELPERS &&
            settings->every >= 1 && settings->every <= LXR_MOST_EVERY && settings->registers >= LXR_REGISTERS &&
-           settings->registers <= LXR_MOST_REGISTERS;
+           settings->registers <= LXR_MOST_REGISTERS && settings->room <= settings->blocks && settings->grow <= LXR_MOST_GROW;
 }
 
 /* The pace in bytes that settings ask for. */
@@ -1134,7 +1183,7 @@ static uint64_t pace_of(const lxr_shared_heap_settings *settings) {
     uint64_t half = (uint64_t)settings->blocks * BLOCK / 2;
     if (settings->pace == LXR_PACE_NEVER) return UINT64_MAX;
     if (settings->pace != LXR_PACE_ROOM) return settings->pace;
-    return half < LEAST_ROOM ? LEAST_ROOM : half > MOST_ROOM ? MOST_ROOM : half;
+    return half < LEAST_PACE ? LEAST_PACE : half > MOST_PACE ? MOST_PACE : half;
 }
 
 /* Opens the heap and its first epoch. */
@@ -1154,6 +1203,9 @@ static lxr_code open_passes(lxr_shared_heap *heap) {
         .registers = all_registers(asked->registers),
     };
     lxr_code code = lxr_passes_open(&heap->passes, &settings);
+    uint64_t blocks_free = asked->blocks;
+    if (code == LXR_OK) lxr_passes_count(&heap->passes, LXR_COUNT_FREE_BLOCKS, &blocks_free);
+    heap->used = asked->blocks - (uint32_t)blocks_free;
     if (code == LXR_OK) code = lxr_passes_resume(&heap->passes);
     if (code != LXR_OK) lxr_passes_close(&heap->passes);
     heap->epoch = 1;
@@ -1183,6 +1235,8 @@ static lxr_shared_heap *make_heap(const lxr_shared_heap_settings *settings) {
     if (!heap) return NULL;
     heap->settings = *settings;
     heap->pace = pace_of(settings);
+    heap->most = settings->room;
+    heap->due = due_bytes(heap);
     heap->worn = WORN;
     if (pthread_mutex_init(&heap->lock, NULL) != 0) {
         free(heap);
@@ -1234,6 +1288,10 @@ lxr_code lxr_shared_heap_count(const lxr_shared_heap *handle, uint32_t what, uin
         *number = heap->paused;
     } else if (what < TOLD) {
         *number = heap->told[what];
+    } else if (what == LXR_COUNT_FREE_BLOCKS) {
+        *number = heap->settings.blocks - heap->used;
+    } else if (what == LXR_COUNT_ROOM) {
+        *number = heap->settings.room;
     } else if (what == LXR_COUNT_COLLECTING) {
         *number = heap->collected;
     } else if (what == LXR_COUNT_ENTERED) {
@@ -1247,4 +1305,23 @@ lxr_code lxr_shared_heap_count(const lxr_shared_heap *handle, uint32_t what, uin
     }
     pthread_mutex_unlock(&heap->lock);
     return code;
+}
+
+lxr_code lxr_shared_heap_set_room(lxr_shared_heap *heap, uint32_t blocks) {
+    if (!heap) return LXR_E_NO_HEAP;
+    if (blocks > heap->settings.blocks) return LXR_E_SIZE;
+    pthread_mutex_lock(&heap->lock);
+    heap->settings.room = heap->most = blocks ? blocks : heap->settings.blocks;
+    heap->due = due_bytes(heap);
+    pthread_mutex_unlock(&heap->lock);
+    return LXR_OK;
+}
+
+lxr_code lxr_shared_heap_set_grow(lxr_shared_heap *heap, uint32_t hundredths) {
+    if (!heap) return LXR_E_NO_HEAP;
+    if (hundredths > LXR_MOST_GROW) return LXR_E_SIZE;
+    pthread_mutex_lock(&heap->lock);
+    heap->settings.grow = hundredths;
+    pthread_mutex_unlock(&heap->lock);
+    return LXR_OK;
 }

@@ -66,7 +66,7 @@ typedef struct lxr_pause_times {
  * mutator wants a plain pause, right after the lxr_mutator_new that made the last. So n mutators that are in the heap all the while make at
  * most `pace` bytes, and one object each, between two pauses; and where only one of them makes objects, it wants a pause after an n-th of the
  * pace. LXR_PACE_ROOM is half of the bytes of all blocks here, whatever lives, but at least 64 KB and at most 1 MB. By LXR_PACE_NEVER bytes
- * want no pause.
+ * want no pause, but by the room where that isn't all.
  *
  * `every` counts operations besides. The archive bounds it, so a mutator wants a pause after LXR_MOST_EVERY operations at the latest, and one
  * after the sixteenth after a sixteenth of that.
@@ -78,7 +78,14 @@ typedef struct lxr_pause_times {
  * `registers` is how many registers each mutator has. What a pause takes grows with those in use alone (lxr_mutator_registers_in_use). Where
  * they are at most 254, each mutator has two more for the library, by which arrays are gone along.
  *
- * Settings of version 0.2, which end before `evacuate`, are taken: then that is an eighth of the blocks, and there are sixteen registers.
+ * `blocks` are reserved. `room` is how many of them are in use before the library collects: after a pause that leaves more in use, each mutator asks
+ * for a collecting one with its next operation, so that the next thread that goes on has it made. The pace is no more than the bytes that the last
+ * pause left of the room, or than 64 KB where that is less. By `grow` the room is set after each collecting pause and each end of a trace: to the blocks
+ * that are in use then and so many hundredths more, but at least 64, and at most all. Where `grow` is 0 it stays as the host has set it; then what a
+ * collecting pause left in use and a quarter more counts as the room, where that is more. LXR_E_FULL comes only where all that is reserved is full.
+ *
+ * Settings of version 0.2, which end before `evacuate`, are taken: then that is an eighth of the blocks, and there are sixteen registers. So are
+ * those that end before `room`: then it is all, and doesn't grow.
  */
 typedef struct lxr_shared_heap_settings {
     uint64_t size;     /* sizeof(lxr_shared_heap_settings) */
@@ -98,16 +105,19 @@ typedef struct lxr_shared_heap_settings {
     uint64_t pace;      /* bytes of new objects between two pauses, or LXR_PACE_NEVER, or LXR_PACE_ROOM */
     uint32_t evacuate;  /* blocks that a trace evacuates at most, 0 to an eighth of all */
     uint32_t registers; /* registers of each mutator, LXR_REGISTERS to LXR_MOST_REGISTERS; 0: LXR_REGISTERS */
+    uint32_t room;      /* blocks in use before it collects, up to all blocks; 0: all */
+    uint32_t grow;      /* hundredths by which the room grows, up to LXR_MOST_GROW; 0: never */
 } lxr_shared_heap_settings;
 
 /*
  * Settings that mostly do, for so many blocks and mutators: sixteen registers each; plain pauses come by the size of the heap, and traces by
- * themselves, each of which evacuates an eighth of the blocks at most, and at most 64. `blocks` is evaluated more than once.
+ * themselves, each of which evacuates an eighth of the blocks at most, and at most 64; and room for all, until the first collecting pause or end of a
+ * trace sets it to twice what is in use. `blocks` is evaluated more than once.
  */
 #define LXR_SHARED_HEAP_SETTINGS(blocks, mutators) \
     { \
         sizeof(lxr_shared_heap_settings), (blocks), (mutators), 1, 1024, 65536, 65536, 16, 4, 0, 0, LXR_PACE_ROOM, \
-            (uint32_t)((blocks) < 512 ? (blocks) / 8 : 64), LXR_REGISTERS \
+            (uint32_t)((blocks) < 512 ? (blocks) / 8 : 64), LXR_REGISTERS, 0, LXR_GROW \
     }
 
 /* ---- A heap ---- */
@@ -125,7 +135,7 @@ lxr_code lxr_shared_heap_open(lxr_shared_heap **heap, const lxr_shared_heap_sett
  */
 lxr_code lxr_shared_heap_close(lxr_shared_heap **heap);
 
-/* What lxr_shared_heap_count tells besides LXR_COUNT_PAUSES, _PROMOTED, _DEAD, _STUCK, _SWEPT and _LAST_KIND of lxr.h. */
+/* What lxr_shared_heap_count tells besides LXR_COUNT_PAUSES, _PROMOTED, _DEAD, _STUCK, _SWEPT, _FREE_BLOCKS, _ROOM and _LAST_KIND of lxr.h. */
 #define LXR_COUNT_COLLECTING 8u  /* pauses that were collecting, since the heap was opened */
 #define LXR_COUNT_ENTERED    9u  /* mutators that are in it */
 #define LXR_COUNT_RESTING    10u /* of these, mutators that rest */
@@ -135,6 +145,18 @@ lxr_code lxr_shared_heap_close(lxr_shared_heap **heap);
  * Codes: LXR_E_NO_HEAP, LXR_E_WHAT. Cost: constant, and a lock.
  */
 lxr_code lxr_shared_heap_count(const lxr_shared_heap *heap, uint32_t what, uint64_t *number);
+
+/*
+ * So many blocks are in use before the library collects, from the next pause on, up to as many as are reserved; 0: all.
+ * Codes: LXR_E_NO_HEAP; LXR_E_SIZE, where fewer are reserved. Cost: constant, and a lock.
+ */
+lxr_code lxr_shared_heap_set_room(lxr_shared_heap *heap, uint32_t blocks);
+
+/*
+ * The room grows by so many hundredths from the next collecting pause or end of a trace on; 0: it stays.
+ * Codes: LXR_E_NO_HEAP; LXR_E_SIZE, above LXR_MOST_GROW. Cost: constant, and a lock.
+ */
+lxr_code lxr_shared_heap_set_grow(lxr_shared_heap *heap, uint32_t hundredths);
 
 /* ---- Mutators ---- */
 

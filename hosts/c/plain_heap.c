@@ -26,7 +26,7 @@ struct heap {
     struct object *registers[LXR_MOST_REGISTERS];
     struct object *world, *newest;
     uint32_t many; /* how many registers may be named */
-    uint32_t blocks, body_blocks;
+    uint32_t blocks, body_blocks, room;
     uint64_t pauses, counts, made, live, promoted;
 };
 
@@ -233,17 +233,18 @@ uint32_t lxr_version(void) { return LXR_VERSION; }
 
 static bool is_block_count(uint32_t blocks) { return blocks >= 1 && blocks <= LXR_MOST_BLOCKS; }
 
-/* The bytes of settings of version 0.2, which end before the registers. */
-enum { FIRST_BYTES = 24 };
+/* The bytes of settings of version 0.2, which end before the registers, and of those that end before the room. */
+enum { FIRST_BYTES = 24, SECOND_BYTES = 32 };
 
 static uint32_t registers_of(const lxr_settings *settings) {
     return settings->size == FIRST_BYTES || settings->registers == 0 ? LXR_REGISTERS : settings->registers;
 }
 
 static bool are_settings(const lxr_settings *settings) {
-    if (settings->size != FIRST_BYTES && settings->size != sizeof *settings) return false;
+    if (settings->size != FIRST_BYTES && settings->size != SECOND_BYTES && settings->size != sizeof *settings) return false;
     uint32_t many = registers_of(settings);
     if (many < LXR_REGISTERS || many > LXR_MOST_REGISTERS) return false;
+    if (settings->size == sizeof *settings && (settings->room > settings->blocks || settings->grow > LXR_MOST_GROW)) return false;
     return is_block_count(settings->blocks) && is_block_count(settings->body_blocks);
 }
 
@@ -261,6 +262,7 @@ lxr_code lxr_open(lxr_heap *handle, const lxr_settings *settings) {
     heap->many = registers_of(settings);
     heap->blocks = settings->blocks;
     heap->body_blocks = settings->body_blocks;
+    heap->room = settings->size == sizeof *settings && settings->room ? settings->room : settings->blocks;
     handle->live = 1;
     handle->block = heap;
     return LXR_OK;
@@ -714,6 +716,20 @@ lxr_code lxr_set_pace(lxr_heap *handle, uint64_t bytes) {
     return heap_of(handle) ? LXR_OK : LXR_E_NO_HEAP;
 }
 
+/* It collects nothing, so its room does nothing; but it says what was asked for. */
+lxr_code lxr_set_room(lxr_heap *handle, uint32_t blocks) {
+    struct heap *heap = heap_of(handle);
+    if (!heap) return LXR_E_NO_HEAP;
+    if (blocks > heap->blocks) return LXR_E_SIZE;
+    heap->room = blocks ? blocks : heap->blocks;
+    return LXR_OK;
+}
+
+lxr_code lxr_set_grow(lxr_heap *handle, uint32_t hundredths) {
+    if (!heap_of(handle)) return LXR_E_NO_HEAP;
+    return hundredths > LXR_MOST_GROW ? LXR_E_SIZE : LXR_OK;
+}
+
 lxr_code lxr_count(const lxr_heap *handle, uint32_t what, uint64_t *number) {
     struct heap *heap = heap_of(handle);
     if (!heap) return LXR_E_NO_HEAP;
@@ -725,6 +741,7 @@ lxr_code lxr_count(const lxr_heap *handle, uint32_t what, uint64_t *number) {
     case LXR_COUNT_STUCK:
     case LXR_COUNT_SWEPT: *number = 0; return LXR_OK;
     case LXR_COUNT_FREE_BLOCKS: *number = heap->blocks - 1; return LXR_OK;
+    case LXR_COUNT_ROOM: *number = heap->room; return LXR_OK;
     case LXR_COUNT_FREE_BODY_BYTES: *number = (uint64_t)heap->body_blocks * LXR_BLOCK_WORDS * sizeof(uint64_t); return LXR_OK;
     default: return LXR_E_WHAT;
     }

@@ -214,7 +214,7 @@ private:
 
 /// How many registers a heap of these settings has.
 inline std::uint32_t registers_of(const lxr_settings& settings) noexcept {
-    return settings.size == sizeof settings && settings.registers != 0 ? settings.registers : LXR_REGISTERS;
+    return settings.size != offsetof(lxr_settings, registers) && settings.registers != 0 ? settings.registers : LXR_REGISTERS;
 }
 
 /// A heap for one thread: its handle, which stays where it is, and its registers.
@@ -824,6 +824,12 @@ public:
     /// A plain pause after so many bytes of new objects; or `LXR_PACE_NEVER`, `LXR_PACE_ROOM`.
     void set_pace(std::uint64_t bytes) { detail::done(lxr_set_pace(handle(), bytes)); }
 
+    /// A pause that is due collects where more than so many blocks are in use; 0: all.
+    void set_room(std::uint32_t blocks) { detail::done(lxr_set_room(handle(), blocks)); }
+
+    /// Each collecting pause sets the room to what it leaves in use and so many hundredths more; 0: none does.
+    void set_grow(std::uint32_t hundredths) { detail::done(lxr_set_grow(handle(), hundredths)); }
+
     [[nodiscard]] std::uint64_t pauses() const { return count(LXR_COUNT_PAUSES); }
     [[nodiscard]] std::uint64_t promoted() const { return count(LXR_COUNT_PROMOTED); }
     [[nodiscard]] std::uint64_t dead() const { return count(LXR_COUNT_DEAD); }
@@ -832,6 +838,7 @@ public:
     [[nodiscard]] std::uint64_t live() const { return count(LXR_COUNT_LIVE); }
     [[nodiscard]] std::uint64_t free_blocks() const { return count(LXR_COUNT_FREE_BLOCKS); }
     [[nodiscard]] std::uint64_t free_body_bytes() const { return count(LXR_COUNT_FREE_BODY_BYTES); }
+    [[nodiscard]] std::uint64_t room() const { return count(LXR_COUNT_ROOM); }
 
 private:
     friend class batch;

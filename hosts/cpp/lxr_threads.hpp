@@ -36,7 +36,7 @@ namespace detail {
 
 /// How many registers each mutator has in a heap of these settings.
 inline std::uint32_t registers_of(const lxr_shared_heap_settings& settings) noexcept {
-    return settings.size == sizeof settings && settings.registers != 0 ? settings.registers : LXR_REGISTERS;
+    return settings.size != offsetof(lxr_shared_heap_settings, evacuate) && settings.registers != 0 ? settings.registers : LXR_REGISTERS;
 }
 
 /// A mutator, which stays where it is, and which of its registers are taken.
@@ -182,6 +182,12 @@ public:
         heap_.reset(opened);
     }
 
+    /// So many blocks are in use before the library collects, from the next pause on; 0: all.
+    void set_room(std::uint32_t blocks) { detail::done(lxr_shared_heap_set_room(handle(), blocks)); }
+
+    /// Each collecting pause and end of a trace sets the room to what it leaves in use and so many hundredths more; 0: none does.
+    void set_grow(std::uint32_t hundredths) { detail::done(lxr_shared_heap_set_grow(handle(), hundredths)); }
+
     [[nodiscard]] std::uint64_t pauses() const { return count(LXR_COUNT_PAUSES); }
     [[nodiscard]] std::uint64_t collected() const { return count(LXR_COUNT_COLLECTING); }
     [[nodiscard]] std::uint64_t promoted() const { return count(LXR_COUNT_PROMOTED); }
@@ -190,6 +196,8 @@ public:
     [[nodiscard]] std::uint64_t swept() const { return count(LXR_COUNT_SWEPT); }
     [[nodiscard]] std::uint64_t entered() const { return count(LXR_COUNT_ENTERED); }
     [[nodiscard]] std::uint64_t resting() const { return count(LXR_COUNT_RESTING); }
+    [[nodiscard]] std::uint64_t free_blocks() const { return count(LXR_COUNT_FREE_BLOCKS); }
+    [[nodiscard]] std::uint64_t room() const { return count(LXR_COUNT_ROOM); }
 
     /// The kind of the last pause; plain before the first.
     [[nodiscard]] pause_kind last_kind() const { return static_cast<pause_kind>(count(LXR_COUNT_LAST_KIND)); }

@@ -12,13 +12,66 @@
  * A reader loads the reference and then reads the word. Where that isn't CHANGED, the reference was not changed before, and both belong
  * together. A writer of a reference over another one writes CHANGED first, and over a plain value last. Nothing of this takes a lock, and
  * what was never changed costs a reader one call more at most. Until there is a second thread, a field is changed as with one thread.
+ *
+ * An element of a vector is a field too. A LONG vector has more of them than an object has fields: it is an object that refers to an array,
+ * which has the elements' references, and to so many words.
  */
 #ifndef FIELDS_H
 #define FIELDS_H
 
 #ifndef THREADS
-
 enum { HEAD_WORDS = 0 };
+#else
+enum { HEAD_WORDS = 1 };
+#endif
+enum { FIELDS_MOST = OBJECT_MOST - HEAD_WORDS };
+enum { LONG_ELEMENTS, LONG_WORDS, LONG_REFERENCES }; /* what a long vector refers to */
+
+/* A field of an object, or an element of a long vector, which has so many of them. */
+typedef struct field {
+    unsigned base;
+    size_t index;
+    size_t length; /* 0: no long vector's */
+} Field;
+
+/* What each of these takes mostly tells, as it is compiled, which branch it takes. */
+#define FOLDED __attribute__((always_inline)) static inline
+
+FOLDED Field field_of(unsigned base, unsigned index) { return (Field){.base = base, .index = index}; }
+
+static inline Words words_of_field(Field field) { return (Words){field.base, LONG_WORDS, field.length}; }
+
+FOLDED Word field_get(Field field) {
+    return field.length ? words_get(words_of_field(field), field.index) : memory_get(field.base, (unsigned)field.index + HEAD_WORDS);
+}
+
+static inline void field_put(Field field, Word word) {
+    if (field.length) {
+        words_put(words_of_field(field), field.index, word);
+    } else {
+        memory_put(field.base, (unsigned)field.index + HEAD_WORDS, word);
+    }
+}
+
+FOLDED void field_load(unsigned dest, Field field) {
+    if (field.length) {
+        memory_load(REGISTER_PART, field.base, LONG_ELEMENTS);
+        memory_array_load(dest, REGISTER_PART, field.index);
+    } else {
+        memory_load(dest, field.base, (unsigned)field.index);
+    }
+}
+
+static inline void field_store(Field field, unsigned source) {
+    if (field.length) {
+        memory_load(REGISTER_PART, field.base, LONG_ELEMENTS);
+        memory_array_store(REGISTER_PART, field.index, source);
+    } else {
+        memory_store(field.base, (unsigned)field.index, source);
+    }
+}
+
+#ifndef THREADS
 
 /* A new object says which value it is. */
 static inline void machine_head(unsigned base, Word word) {
@@ -26,16 +79,16 @@ static inline void machine_head(unsigned base, Word word) {
     (void)word;
 }
 
-/* A register becomes a field of an object. */
-static inline void machine_load(Machine *machine, unsigned dest, unsigned base, unsigned field) {
-    const Word word = memory_get(base, field);
+/* A register becomes a field. */
+FOLDED void machine_load_field(Machine *machine, unsigned dest, Field field) {
+    const Word word = field_get(field);
     machine->word[dest] = word;
-    if (is_reference(word)) memory_load(dest, base, field);
+    if (is_reference(word)) field_load(dest, field);
 }
 
 /* The same of a field that is never changed. */
 static inline void machine_load_fixed(Machine *machine, unsigned dest, unsigned base, unsigned field) {
-    machine_load(machine, dest, base, field);
+    machine_load_field(machine, dest, field_of(base, field));
 }
 
 /* The word of a field's value. */
@@ -44,14 +97,23 @@ static inline Word machine_peek(const Machine *machine, unsigned base, unsigned 
     return memory_get(base, field);
 }
 
-/* A field of an object becomes a value; what it referred to is let go. */
-static inline void machine_store(Machine *machine, unsigned base, unsigned field, unsigned source) {
-    if (is_reference(machine->word[source])) {
-        memory_store(base, field, source);
-    } else if (is_reference(memory_get(base, field))) {
-        memory_store(base, field, REGISTER_NIL);
+/* A field's word becomes another one; it is answered. */
+static inline Word field_swap(Field field, Word word) {
+    if (field.length) return words_swap(words_of_field(field), field.index, word);
+    const Word old = field_get(field);
+    field_put(field, word);
+    return old;
+}
+
+/* A field becomes a value; what it referred to is let go. */
+static inline void machine_store_field(Machine *machine, Field field, unsigned source) {
+    const Word word = machine->word[source];
+    if (is_reference(word)) {
+        field_store(field, source);
+        field_put(field, word);
+    } else if (is_reference(field_swap(field, word))) {
+        field_store(field, REGISTER_NIL);
     }
-    memory_put(base, field, machine->word[source]);
 }
 
 /* A register becomes a new object whose fields are what registers hold. `sources` and `data` are those of machine_source, and words. */
@@ -61,8 +123,6 @@ static inline void machine_make(Machine *machine, unsigned dest, Word word, cons
 }
 
 #else
-
-enum { HEAD_WORDS = 1 };
 
 /* A pair's is 0, as all words of a new object are. */
 static inline void machine_head(unsigned base, Word word) {
@@ -86,25 +146,27 @@ static inline bool machine_believe(Machine *machine, unsigned dest) {
     return true;
 }
 
-static inline void machine_load(Machine *machine, unsigned dest, unsigned base, unsigned field) {
+FOLDED void machine_load_field(Machine *machine, unsigned dest, Field field) {
     Word word;
     if (is_alone()) {
-        machine_load_fixed(machine, dest, base, field);
+        word = field_get(field);
+        machine->word[dest] = word;
+        if (is_reference(word)) field_load(dest, field);
         return;
     }
-    if (dest == base) { /* the word can't be read behind the reference */
-        word = memory_get(base, field + HEAD_WORDS);
+    if (dest == field.base) { /* the word can't be read behind the reference */
+        word = field_get(field);
         machine->word[dest] = word;
         if (!is_reference(word) && word != CHANGED) return;
-        memory_load(dest, base, field);
+        field_load(dest, field);
         machine_believe(machine, dest);
         return;
     }
-    memory_load(dest, base, field);
-    word = memory_get(base, field + HEAD_WORDS);
+    field_load(dest, field);
+    word = field_get(field);
     machine->word[dest] = word;
     if (word == CHANGED && !machine_believe(machine, dest)) { /* it became a reference in between */
-        memory_load(dest, base, field);
+        field_load(dest, field);
         machine_believe(machine, dest);
     }
 }
@@ -120,22 +182,22 @@ static inline Word machine_peek(const Machine *machine, unsigned base, unsigned 
 }
 
 /* A field whose word is CHANGED becomes a word without a reference. */
-void machine_store_boxed(const Machine *machine, unsigned base, unsigned field, Word word);
+void machine_store_boxed(const Machine *machine, Field field, Word word);
 
-static inline void machine_store(Machine *machine, unsigned base, unsigned field, unsigned source) {
-    const Word word = machine->word[source], old = memory_get(base, field + HEAD_WORDS);
+static inline void machine_store_field(Machine *machine, Field field, unsigned source) {
+    const Word word = machine->word[source], old = field_get(field);
     if (is_alone()) {
-        if (is_reference(word) || is_reference(old)) memory_store(base, field, machine_source(machine, source));
-        memory_put(base, field + HEAD_WORDS, word);
+        if (is_reference(word) || is_reference(old)) field_store(field, machine_source(machine, source));
+        field_put(field, word);
     } else if (is_reference(word)) {
-        if (is_reference(old)) memory_put(base, field + HEAD_WORDS, CHANGED);
-        memory_store(base, field, source);
-        if (!is_reference(old) && old != CHANGED) memory_put(base, field + HEAD_WORDS, CHANGED);
+        if (is_reference(old)) field_put(field, CHANGED);
+        field_store(field, source);
+        if (!is_reference(old) && old != CHANGED) field_put(field, CHANGED);
     } else if (is_reference(old) || old == CHANGED) {
-        if (old != CHANGED) memory_put(base, field + HEAD_WORDS, CHANGED);
-        machine_store_boxed(machine, base, field, word);
+        if (old != CHANGED) field_put(field, CHANGED);
+        machine_store_boxed(machine, field, word);
     } else {
-        memory_put(base, field + HEAD_WORDS, word);
+        field_put(field, word);
     }
 }
 
@@ -151,7 +213,15 @@ static inline void machine_make(Machine *machine, unsigned dest, Word word, cons
 
 #endif
 
-enum { FIELDS_MOST = OBJECT_MOST - HEAD_WORDS };
+/* A register becomes a field of an object. */
+FOLDED void machine_load(Machine *machine, unsigned dest, unsigned base, unsigned field) {
+    machine_load_field(machine, dest, field_of(base, field));
+}
+
+/* A field of an object becomes a value; what it referred to is let go. */
+static inline void machine_store(Machine *machine, unsigned base, unsigned field, unsigned source) {
+    machine_store_field(machine, field_of(base, field), source);
+}
 
 /* A field of a new object, which no other thread can reach yet, becomes a value. */
 static inline void machine_begin(const Machine *machine, unsigned base, unsigned field, unsigned source) {

@@ -175,16 +175,16 @@ void machine_close(Machine *machine) {
 #ifdef THREADS
 
 /* The register that is nil holds the field's object, and then a box, and is nil again. */
-void machine_store_boxed(const Machine *machine, unsigned base, unsigned field, Word word) {
+void machine_store_boxed(const Machine *machine, Field field, Word word) {
     const Word boxed = word == integer(0) ? BOXED_ZERO : word;
     Word head;
-    memory_load(REGISTER_NIL, base, field);
+    field_load(REGISTER_NIL, field);
     if (memory_first(REGISTER_NIL, &head) && head && !is_reference(head)) {
         memory_put(REGISTER_NIL, 0, boxed);
     } else {
         machine_new(machine, REGISTER_NIL, 0, 1);
         memory_put(REGISTER_NIL, 0, boxed);
-        memory_store(base, field, REGISTER_NIL);
+        field_store(field, REGISTER_NIL);
     }
     memory_nil(REGISTER_NIL);
 }
@@ -696,6 +696,7 @@ void machine_run_thread(Machine *machine) {
 
 void machine_reset(Machine *machine) {
     machine->output = stdout;
+    memory_nil(REGISTER_NIL);
     begin(machine);
     machine_set(machine, REGISTER_SCRATCH, EMPTY_LIST);
     machine_set_entry(machine, OWN_STATE, REGISTER_SCRATCH);

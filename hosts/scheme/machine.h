@@ -35,8 +35,9 @@ enum {
     REGISTER_TABLE = 0,   /* references of globals and constants; it has no word */
     REGISTER_FRAME = 1,   /* the frame that a return goes to where no caller is on the stack; it has no word */
     REGISTER_SCRATCH = 2, /* free within an instruction */
-    REGISTER_NIL = MEMORY_NIL,
-    REGISTER_FIRST = 4, /* the stack begins here */
+    REGISTER_NIL = 3,     /* nil but within some functions here, which say so */
+    REGISTER_PART = 4,    /* free within a function of words.c or of fields.h; room is made without it */
+    REGISTER_FIRST = 5,   /* the stack begins here */
     REGISTERS = MEMORY_REGISTERS,
 
     /* of a window: */
@@ -263,6 +264,8 @@ static inline void machine_new_with(const Machine *machine, unsigned dest, const
     machine_make_room(machine);
     if (!memory_new_with(dest, sources, references, data, words)) machine_full(machine);
 }
+
+#include "words.h"
 
 #include "fields.h"
 

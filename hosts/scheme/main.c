@@ -27,14 +27,15 @@ static const char usage[] =
     "Runs FILE, or what is typed where there is none. A block has 32 KB.\n"
     "\n"
     "--heap BLOCKS    size of the heap, 1 to 65536 (2048)\n"
-    "--bodies BLOCKS  room for strings of more than 8184 bytes, 1 to 65536 (256)\n"
+    "--bodies BLOCKS  room for strings of more than 8184 bytes and vectors of more than 1023 elements, 1 to 65536 (2048)\n"
     "--every BYTES    new objects between two plain pauses of the proved collector (chosen by the size of the heap)\n"
-    "--registers N    registers of the heap that a thread has, up to 256 (256); it calls deeper without frames by more\n"
+    "--registers N    registers of the heap that a thread has, up to 254 (254); it calls deeper without frames by more\n"
     "--pauses         tells at the end how many pauses there were, and how long they took, on the standard error output\n"
     "--threads N      runs on a heap that threads share, with up to N threads at once beside the first\n"
     "--helpers N      runs on such a heap, with N threads that help the collector\n"
     "\n"
-    "A heap that threads share may be smaller, and has long strings among its other objects; how large the numbers may be is told.\n";
+    "A heap that threads share may be smaller, and has long strings and vectors among its other objects; how large the numbers may be is "
+    "told.\n";
 
 #ifdef THREADS
 enum { BLOCKS_MOST = LXR_MOST_SHARED_BLOCKS, THREADS_MOST = LXR_MOST_MUTATORS - 1, HELPERS_MOST = LXR_MOST_HELPERS };
@@ -303,7 +304,7 @@ static void want_option(Options *options, const char *word, const char *value) {
 }
 
 static Options options_of(int count, char **words) {
-    Options options = {.memory = {.blocks = BLOCKS_CHOSEN, .body_blocks = 256, .registers = REGISTERS}};
+    Options options = {.memory = {.blocks = BLOCKS_CHOSEN, .body_blocks = 2048, .registers = REGISTERS}};
     for (int i = 1; i < count; i++) {
         const char *const word = words[i];
         if (strcmp(word, "--pauses") == 0) {

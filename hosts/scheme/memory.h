@@ -2,9 +2,10 @@
  * The heap, as the interpreter sees it. SPDX: MIT OR Apache-2.0
  *
  * It has one of four versions, chosen at build: memory_lxr.c on the proved collector, memory_threads.c on the one that threads share,
- * memory_boehm.c on Boehm's, and memory_malloc.c, which never frees. An object has up to OBJECT_MOST references and as many data words,
- * and one of words alone up to WORDS_MOST of them. Objects are held by up to 256 registers, by number. What a register, or an object that a
- * register leads to, holds is kept.
+ * memory_boehm.c on Boehm's, and memory_malloc.c, which never frees. An object has up to OBJECT_MOST references and as many data words.
+ * WORDS are up to WORDS_MOST data words alone, and an ARRAY has up to ARRAY_MOST references alone: what each of them is made of is the
+ * heap's. Objects are held by up to MEMORY_REGISTERS registers, by number. What a register, or an object that a register leads to, holds is
+ * kept.
  *
  * Registers that nobody reads any more let go of what they hold before a pause, and not at once: a count of what is made, `memory_left`,
  * says when that is due. Then whoever runs the program lets go of them, and calls memory_pause.
@@ -19,8 +20,12 @@
 #include <stddef.h>
 #include <stdio.h>
 
-enum { MEMORY_REGISTERS = 256, MEMORY_NIL = 3 /* is nil between calls here */ };
-enum { OBJECT_MOST = 1023, WORDS_MOST = 524287, BLOCK_BYTES = 32768 };
+enum { MEMORY_REGISTERS = 254, OBJECT_MOST = 1023, ARRAY_MOST = 1046529, BLOCK_BYTES = 32768 };
+#ifdef THREADS
+enum { WORDS_MOST = OBJECT_MOST };
+#else
+enum { WORDS_MOST = 524287 };
+#endif
 
 typedef struct memory_options {
     uint32_t blocks;      /* the heap's size, in blocks of 32 KB */
@@ -57,11 +62,20 @@ void memory_get_many(unsigned base, unsigned first, Word *into, size_t count);
 void memory_put_many(unsigned base, unsigned first, const Word *from, size_t count);
 void memory_load_many(unsigned base, unsigned first, const uint32_t *registers, size_t count);
 
-/* A new object of words alone, which are 0. Whether there is room. These read and write them, however many there are; where threads share
- * the heap the first one is read and written as that of other objects is. */
+/* New words, which are 0. Whether there is room. Those that an object has room for are one. What reads and writes them is told how many
+ * there are in all. */
 bool memory_words(unsigned dest, size_t count);
-void memory_read(unsigned base, size_t index, Word *into, size_t count);
-void memory_write(unsigned base, size_t index, const Word *from, size_t count);
+void memory_read(unsigned base, size_t all, size_t index, Word *into, size_t count);
+void memory_write(unsigned base, size_t all, size_t index, const Word *from, size_t count);
+Word memory_word(unsigned base, size_t all, size_t index);
+void memory_set_word(unsigned base, size_t all, size_t index, Word word);
+
+/* A new array, whose elements are nil. Whether there is room: else `dest` holds what it held. A copy may be of elements that overlap. */
+bool memory_array(unsigned dest, size_t length);
+void memory_array_load(unsigned dest, unsigned base, size_t index);
+void memory_array_store(unsigned base, size_t index, unsigned source);
+void memory_array_fill(unsigned base, size_t first, size_t count, unsigned source);
+void memory_array_copy(unsigned to, size_t at, unsigned from, size_t first, size_t count);
 
 /* Bytes that the thread may make until registers are to let go of what isn't needed. */
 #ifdef THREADS

@@ -104,12 +104,38 @@ void memory_load_many(unsigned base, unsigned first, const uint32_t *into, size_
 
 bool memory_words(unsigned dest, size_t count) { return make(dest, 0, count); }
 
-void memory_read(unsigned base, size_t index, Word *into, size_t count) {
+void memory_read(unsigned base, size_t all, size_t index, Word *into, size_t count) {
+    (void)all;
     memcpy(into, words_of(registers[base]) + index, count * sizeof *into);
 }
 
-void memory_write(unsigned base, size_t index, const Word *from, size_t count) {
+void memory_write(unsigned base, size_t all, size_t index, const Word *from, size_t count) {
+    (void)all;
     memcpy(words_of(registers[base]) + index, from, count * sizeof *from);
+}
+
+Word memory_word(unsigned base, size_t all, size_t index) {
+    (void)all;
+    return words_of(registers[base])[index];
+}
+
+void memory_set_word(unsigned base, size_t all, size_t index, Word word) {
+    (void)all;
+    words_of(registers[base])[index] = word;
+}
+
+bool memory_array(unsigned dest, size_t length) { return make(dest, length, 0); }
+
+void memory_array_load(unsigned dest, unsigned base, size_t index) { registers[dest] = references_of(registers[base])[index]; }
+
+void memory_array_store(unsigned base, size_t index, unsigned source) { references_of(registers[base])[index] = registers[source]; }
+
+void memory_array_fill(unsigned base, size_t first, size_t count, unsigned source) {
+    for (size_t i = first; i < first + count; i++) references_of(registers[base])[i] = registers[source];
+}
+
+void memory_array_copy(unsigned to, size_t at, unsigned from, size_t first, size_t count) {
+    memmove(references_of(registers[to]) + at, references_of(registers[from]) + first, count * sizeof(Object *));
 }
 
 void memory_pause(void) { memory_left = chosen_left; }

@@ -62,6 +62,7 @@ bool memory_open(const MemoryOptions *options) {
     is_timed = options->pauses;
     lxr_settings settings = LXR_SETTINGS(options->blocks, options->body_blocks);
     settings.pace = LXR_PACE_NEVER;
+    settings.grow = 0;
     settings.registers = options->registers;
     if (lxr_open(&heap, &settings) != LXR_OK) return false;
     plan_pause();
@@ -145,12 +146,59 @@ bool memory_words(unsigned dest, size_t count_of_words) {
     return is_done(code);
 }
 
-void memory_read(unsigned base, size_t index, Word *into, size_t count_of_words) {
-    want(lxr_words_read(&heap, base, (uint32_t)index, into, count_of_words));
+/*
+ * Few words are those of an object, and many ones of a large object, whose body has them after their number (lxr.h). How many there are is
+ * known here, so which of the two they are needn't be asked.
+ */
+
+static inline bool are_few(size_t all) { return all <= LXR_MOST_WORDS; }
+
+void memory_read(unsigned base, size_t all, size_t index, Word *into, size_t count_of_words) {
+    want(are_few(all) ? lxr_get_many(&heap, base, (uint32_t)index, into, count_of_words)
+                      : lxr_words_read(&heap, base, (uint32_t)index, into, count_of_words));
 }
 
-void memory_write(unsigned base, size_t index, const Word *from, size_t count_of_words) {
-    want(lxr_words_write(&heap, base, (uint32_t)index, from, count_of_words));
+void memory_write(unsigned base, size_t all, size_t index, const Word *from, size_t count_of_words) {
+    want(are_few(all) ? lxr_put_many(&heap, base, (uint32_t)index, from, count_of_words)
+                      : lxr_words_write(&heap, base, (uint32_t)index, from, count_of_words));
+}
+
+Word memory_word(unsigned base, size_t all, size_t index) {
+    Word word;
+    want(are_few(all) ? lxr_get(&heap, base, (uint32_t)index, &word) : lxr_large_get(&heap, base, (uint32_t)index + 1, &word));
+    return word;
+}
+
+void memory_set_word(unsigned base, size_t all, size_t index, Word word) {
+    want(are_few(all) ? lxr_put(&heap, base, (uint32_t)index, word) : lxr_large_put(&heap, base, (uint32_t)index + 1, word));
+}
+
+bool memory_array(unsigned dest, size_t length) {
+    const uint64_t began = is_timed ? pauses_clock() : 0;
+    count_new(length);
+    const lxr_code code = lxr_array_new(&heap, dest, (uint32_t)length);
+    if (is_timed) note_pauses(PAUSE_COLLECTING, began);
+    return is_done(code);
+}
+
+void memory_array_load(unsigned dest, unsigned base, size_t index) { want(lxr_array_load(&heap, dest, base, (uint32_t)index)); }
+
+void memory_array_store(unsigned base, size_t index, unsigned source) {
+    const uint64_t began = is_timed ? pauses_clock() : 0;
+    want(lxr_array_store(&heap, base, (uint32_t)index, source));
+    if (is_timed) note_pauses(PAUSE_PLAIN, began);
+}
+
+void memory_array_fill(unsigned base, size_t first, size_t count_of_references, unsigned source) {
+    const uint64_t began = is_timed ? pauses_clock() : 0;
+    want(lxr_array_fill(&heap, base, (uint32_t)first, (uint32_t)count_of_references, source));
+    if (is_timed) note_pauses(PAUSE_PLAIN, began);
+}
+
+void memory_array_copy(unsigned to, size_t at, unsigned from, size_t first, size_t count_of_references) {
+    const uint64_t began = is_timed ? pauses_clock() : 0;
+    want(lxr_array_copy(&heap, to, (uint32_t)at, from, (uint32_t)first, (uint32_t)count_of_references));
+    if (is_timed) note_pauses(PAUSE_PLAIN, began);
 }
 
 void memory_collect(void) {

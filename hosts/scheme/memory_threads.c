@@ -2,8 +2,7 @@
  * The heap on the proved collector, as threads share it. SPDX: MIT OR Apache-2.0
  *
  * Each thread of the program has a mutator, whose registers are its machine's; a call here is one of that mutator's operations, or several.
- * Pauses come by the heap's own pace, at any call, and so registers let go of what isn't needed several times between two of them. An
- * object of words has as many as any other object there, so a longer one refers to parts.
+ * Pauses come by the heap's own pace, at any call, and so registers let go of what isn't needed several times between two of them.
  */
 #include "fault.h"
 #include "memory.h"
@@ -11,7 +10,7 @@
 #include <lxr_threads.h>
 #include <stdlib.h>
 
-enum { PART_WORDS = OBJECT_MOST, LOG = 16384, LEAST_PACE = 2 * BLOCK_BYTES, FIELD_BYTES = 8 };
+enum { LOG = 16384, LEAST_PACE = 2 * BLOCK_BYTES, FIELD_BYTES = 8 };
 
 static lxr_shared_heap *heap;
 static __thread lxr_mutator *mutator;
@@ -44,6 +43,7 @@ bool memory_open(const MemoryOptions *options) {
     settings.log = LOG;
     settings.pace = options->every ? options->every : quarter > LEAST_PACE ? quarter : LEAST_PACE;
     settings.registers = options->registers;
+    settings.grow = 0; /* so the figures are those of the heap that is told */
     between = (int64_t)(settings.pace / 4 > LEAST_PACE ? settings.pace / 4 : LEAST_PACE);
     memory_left = between;
     if (options->pauses) settings.paused = note_pause;
@@ -80,12 +80,16 @@ void memory_wake(void) { want(lxr_mutator_wake(mutator)); }
 
 void memory_poll(void) { want(lxr_mutator_poll(mutator)); }
 
-bool memory_new(unsigned dest, unsigned references, unsigned words) {
-    const lxr_code code = lxr_mutator_new(mutator, dest, references, words);
+/* Whether there was room for so many fields. */
+static inline bool is_made(lxr_code code, size_t fields) {
     if (code == LXR_E_FULL || code == LXR_E_USED_UP) return false;
     want(code);
-    memory_left -= FIELD_BYTES * (1 + (int64_t)references + words);
+    memory_left -= FIELD_BYTES * (1 + (int64_t)fields);
     return true;
+}
+
+bool memory_new(unsigned dest, unsigned references, unsigned words) {
+    return is_made(lxr_mutator_new(mutator, dest, references, words), (size_t)references + words);
 }
 
 /* A new object's words are 0. */
@@ -143,67 +147,44 @@ bool memory_same(unsigned left, unsigned right) {
     return same;
 }
 
-/*
- * Of many words the object has the first, and refers to parts with the others. It stands in the register that is nil until it is whole, and
- * parts in `dest`: the last reference keeps what that held, in case that there is no room, and then the last part once more.
- */
-bool memory_words(unsigned dest, size_t count) {
-    const unsigned parts = (unsigned)((count + PART_WORDS - 2) / PART_WORDS);
-    bool fits = true;
-    if (count <= OBJECT_MOST) return memory_new(dest, 0, (unsigned)count);
-    if (!memory_new(MEMORY_NIL, parts + 1, 1)) return false;
-    memory_store(MEMORY_NIL, parts, dest);
-    for (unsigned part = 0; fits && part < parts; part++) {
-        const size_t left = count - 1 - (size_t)part * PART_WORDS;
-        fits = memory_new(dest, 0, (unsigned)(left < PART_WORDS ? left : PART_WORDS));
-        if (fits) memory_store(MEMORY_NIL, part, dest);
-    }
-    if (fits) {
-        memory_store(MEMORY_NIL, parts, dest);
-        memory_move(dest, MEMORY_NIL);
-    } else {
-        memory_load(dest, MEMORY_NIL, parts);
-    }
-    memory_nil(MEMORY_NIL);
-    return fits;
+bool memory_words(unsigned dest, size_t count) { return is_made(lxr_mutator_words_new(mutator, dest, (uint32_t)count), count); }
+
+void memory_read(unsigned base, size_t all, size_t index, Word *into, size_t count) {
+    (void)all;
+    want(lxr_mutator_get_many(mutator, base, (uint32_t)index, into, count));
 }
 
-/* How many of some words from an index on are in its part, which the register that is nil holds then. */
-static size_t load_part(unsigned base, size_t index, size_t count) {
-    const size_t left = PART_WORDS - index % PART_WORDS;
-    memory_load(MEMORY_NIL, base, (unsigned)(index / PART_WORDS));
-    return count < left ? count : left;
+void memory_write(unsigned base, size_t all, size_t index, const Word *from, size_t count) {
+    (void)all;
+    want(lxr_mutator_put_many(mutator, base, (uint32_t)index, from, count));
 }
 
-/* Whether an object of words has them in parts: it hasn't the one that was asked for. */
-static bool is_in_parts(lxr_code code) {
-    if (code == LXR_E_INDEX) return true;
-    want(code);
-    return false;
+Word memory_word(unsigned base, size_t all, size_t index) {
+    Word word;
+    (void)all;
+    want(lxr_mutator_words_get(mutator, base, (uint32_t)index, &word));
+    return word;
 }
 
-void memory_read(unsigned base, size_t index, Word *into, size_t count) {
-    if (!is_in_parts(lxr_mutator_get_many(mutator, base, (uint32_t)index, into, count))) return;
-    for (index--; count;) {
-        const size_t now = load_part(base, index, count);
-        memory_get_many(MEMORY_NIL, (unsigned)(index % PART_WORDS), into, now);
-        index += now;
-        into += now;
-        count -= now;
-    }
-    memory_nil(MEMORY_NIL);
+void memory_set_word(unsigned base, size_t all, size_t index, Word word) {
+    (void)all;
+    want(lxr_mutator_words_put(mutator, base, (uint32_t)index, word));
 }
 
-void memory_write(unsigned base, size_t index, const Word *from, size_t count) {
-    if (!is_in_parts(lxr_mutator_put_many(mutator, base, (uint32_t)index, from, count))) return;
-    for (index--; count;) {
-        const size_t now = load_part(base, index, count);
-        memory_put_many(MEMORY_NIL, (unsigned)(index % PART_WORDS), from, now);
-        index += now;
-        from += now;
-        count -= now;
-    }
-    memory_nil(MEMORY_NIL);
+bool memory_array(unsigned dest, size_t length) { return is_made(lxr_mutator_array_new(mutator, dest, (uint32_t)length), length); }
+
+void memory_array_load(unsigned dest, unsigned base, size_t index) { want(lxr_mutator_array_load(mutator, dest, base, (uint32_t)index)); }
+
+void memory_array_store(unsigned base, size_t index, unsigned source) {
+    want(lxr_mutator_array_store(mutator, base, (uint32_t)index, source));
+}
+
+void memory_array_fill(unsigned base, size_t first, size_t count, unsigned source) {
+    want(lxr_mutator_array_fill(mutator, base, (uint32_t)first, (uint32_t)count, source));
+}
+
+void memory_array_copy(unsigned to, size_t at, unsigned from, size_t first, size_t count) {
+    want(lxr_mutator_array_copy(mutator, to, (uint32_t)at, from, (uint32_t)first, (uint32_t)count));
 }
 
 void memory_collect(void) { want(lxr_mutator_collect(mutator)); }

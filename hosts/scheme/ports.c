@@ -37,7 +37,7 @@ static void make_room(Machine *machine, unsigned port, size_t used, size_t wante
     read_string_text(machine, REGISTER_SCRATCH, 0, used, kept);
     const size_t twice = 2 * room < STRING_MOST ? 2 * room : STRING_MOST;
     make_string_room(machine, REGISTER_SCRATCH, wanted > twice ? wanted : twice);
-    write_string_text(REGISTER_SCRATCH, 0, machine->text + kept, used);
+    write_string_text(machine, REGISTER_SCRATCH, 0, machine->text + kept, used);
     machine_store(machine, port, PORT_STRING, REGISTER_SCRATCH);
 }
 
@@ -54,7 +54,7 @@ static void put_text(Machine *machine, unsigned port, size_t length) {
     if (word != OUTPUT_STRING) machine_fault(machine, "not a port for output");
     const size_t used = load_string(machine, port);
     make_room(machine, port, used, used + length, length);
-    write_string_text(REGISTER_SCRATCH, used, machine->text, length);
+    write_string_text(machine, REGISTER_SCRATCH, used, machine->text, length);
     memory_put(port, PORT_USED + HEAD_WORDS, integer((int64_t)(used + length)));
 }
 
@@ -240,7 +240,7 @@ static int peek_byte(Machine *machine, const char *name, unsigned port) {
     if (word != INPUT_STRING) machine_fault(machine, "%s: not a port for input", name);
     const size_t used = load_string(machine, port);
     if (used == payload(machine->word[REGISTER_SCRATCH])) return EOF;
-    return string_byte(REGISTER_SCRATCH, used);
+    return string_byte(machine, REGISTER_SCRATCH, used);
 }
 
 static int take_byte(Machine *machine, const char *name, unsigned port) {

@@ -126,12 +126,31 @@ const char *const prelude[] = {
     "(define (vector . xs) (list->vector xs))",
     "(define (vector->list v . range)"
     "  (%range->list (lambda (v i) (vector-ref v i)) v (%range 'vector->list (vector-length v) range)))",
+    "(define %few 64)", /* so many elements are written one by one in any case */
+    "(define (%fill! v x i end)"
+    "  (if (not (and (> (- end i) %few) (%fill-at-once! v x (list i end))))"
+    "      (do ((i i (+ i 1))) ((= i end)) (vector-set! v i x))))",
+    "(define (%copy! to at from i end)"
+    "  (cond ((and (> (- end i) %few) (%copy-at-once! to from (list at i end))) #t)"
+    "        ((> at i) (do ((j (- end 1) (- j 1))) ((< j i)) (vector-set! to (+ at (- j i)) (vector-ref from j))))"
+    "        (else (do ((i i (+ i 1)) (at at (+ at 1))) ((= i end)) (vector-set! to at (vector-ref from i))))))",
     "(define (vector-fill! v x . range)"
-    "  (let ((range (%range 'vector-fill! (vector-length v) range)))"
-    "    (do ((i (car range) (+ i 1))) ((= i (cdr range))) (vector-set! v i x))))",
+    "  (let ((range (%range 'vector-fill! (vector-length v) range))) (%fill! v x (car range) (cdr range))))",
     "(define (vector-copy v . range)"
     "  (let* ((range (%range 'vector-copy (vector-length v) range)) (w (make-vector (- (cdr range) (car range)))))"
-    "    (do ((i (car range) (+ i 1))) ((= i (cdr range)) w) (vector-set! w (- i (car range)) (vector-ref v i)))))",
+    "    (%copy! w 0 v (car range) (cdr range))"
+    "    w))",
+    "(define (vector-copy! to at from . range)"
+    "  (let ((length (vector-length to)) (range (%range 'vector-copy! (vector-length from) range)))"
+    "    (%index 'vector-copy! (+ (%index 'vector-copy! at length) (- (cdr range) (car range))) length)"
+    "    (%copy! to at from (car range) (cdr range))))",
+    "(define (vector-append . vs)"
+    "  (let ((w (make-vector (%fold (lambda (n v) (+ n (vector-length v))) 0 vs))))"
+    "    (let next ((vs vs) (at 0))"
+    "      (if (null? vs) w"
+    "          (let ((end (+ at (vector-length (car vs))))) (%copy! w at (car vs) 0 (- end at)) (next (cdr vs) end))))))",
+    "(define (vector-grow v n)"
+    "  (let ((w (make-vector n))) (%copy! w 0 v 0 (%index 'vector-grow (vector-length v) n)) w))",
     "(define (vector-map f v . vs)" /* no vector before the last element: a continuation may come back to any */
     "  (if (null? vs)"
     "      (let next ((i 0) (x '()))"

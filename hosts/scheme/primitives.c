@@ -224,6 +224,8 @@ const Primitive primitives[] = {
     CALL("%index", 3, 3, 0, index_within),
     CALL("make-vector", 1, 2, 0, make_vector),
     CALL("vector-length", 1, 1, 0, vector_length),
+    CALL("%fill-at-once!", 3, 3, 0, fill_at_once),
+    CALL("%copy-at-once!", 3, 3, 0, copy_at_once),
     CALL("make-string", 1, 2, PLAIN(KIND_CHARACTER, ' '), make_string),
     CALL("string-length", 1, 1, 0, string_length),
     CALL("string-ref", 2, 2, 0, string_ref),

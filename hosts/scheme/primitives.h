@@ -33,6 +33,10 @@ void vector_ref(Machine *machine, unsigned dest, unsigned vector, unsigned index
 void vector_set(Machine *machine, unsigned vector, unsigned index, unsigned value);
 PrimitiveFunction make_vector, vector_length;
 
+/* Elements become a value, or those of another vector, and the result is whether they do: false, and nothing is done, where they are to be
+ * written one by one. The last operand is a list of where they begin and end, for a copy after where they go to; all of them are there. */
+PrimitiveFunction fill_at_once, copy_at_once;
+
 /* control.c */
 PrimitiveFunction values_of, list_of_values, continuation_state, position, begin_fault, end_fault, leave;
 
@@ -72,7 +76,7 @@ PrimitiveFunction make_string, string_length, string_ref, string_set, string_app
     string_to_symbol;
 
 /* The bytes of the longest string. */
-enum { STRING_MOST = (WORDS_MOST - 1) * 8 };
+enum { STRING_MOST = 524286 * 8 };
 
 /* The bytes of a string from one to another stand in the machine's text from some byte on. */
 void read_string_text(Machine *machine, unsigned string, size_t from, size_t to, size_t at);
@@ -84,8 +88,8 @@ void want_text(Machine *machine, size_t bytes);
 void make_string_room(Machine *machine, unsigned dest, size_t length);
 
 /* A string's bytes from some one on become others. */
-void write_string_text(unsigned string, size_t at, const char *bytes, size_t count);
-unsigned char string_byte(unsigned string, size_t at);
+void write_string_text(const Machine *machine, unsigned string, size_t at, const char *bytes, size_t count);
+unsigned char string_byte(const Machine *machine, unsigned string, size_t at);
 
 /* A new string has the first bytes of the machine's text. */
 void make_string_of_text(Machine *machine, unsigned dest, size_t length);

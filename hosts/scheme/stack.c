@@ -80,6 +80,7 @@ void machine_let_go(const Machine *machine) {
         let_go(machine, caller.window, caller.window + call_before(caller.resume)->a, needed_after(caller.resume));
     }
     let_go(machine, machine->window, end, needed);
+    memory_nil(REGISTER_PART);
     memory_registers_in_use(end);
 }
 

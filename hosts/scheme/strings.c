@@ -1,7 +1,8 @@
 /*
  * Strings, and what is made of them and into them. SPDX: MIT OR Apache-2.0
  *
- * A string is an object of words, eight bytes in each. Its length stands in its word. What works on many bytes copies them to the machine's
+ * A string is words, eight bytes in each; where threads share the heap its own word stands before them, and a string with more of them than
+ * are one object is an object that refers to them. Its length stands in its word. What works on many bytes copies them to the machine's
  * text, works there, and makes a string of it.
  */
 #include "primitives.h"
@@ -27,10 +28,47 @@ void want_text(Machine *machine, size_t bytes) {
     machine->text = more_memory(machine->text, machine->text_room);
 }
 
-static void read_words(unsigned string, size_t index, Word *into, size_t count) { memory_read(string, index + HEAD_WORDS, into, count); }
+static size_t length_of(const Machine *machine, unsigned string) { return (size_t)payload(machine->word[string]); }
 
-static void write_words(unsigned string, size_t index, const Word *from, size_t count) {
-    memory_write(string, index + HEAD_WORDS, from, count);
+/* How many words a string has that is words itself, as each is with one thread. */
+static size_t all_words(size_t length) { return HEAD_WORDS + words_of(length); }
+
+static bool is_whole(size_t length) { return all_words(length) <= WORDS_MOST; }
+
+/* The words to which another string refers. */
+static Words parts_of(unsigned string, size_t length) { return (Words){string, 0, words_of(length)}; }
+
+static void read_words(const Machine *machine, unsigned string, size_t index, Word *into, size_t count) {
+    const size_t length = length_of(machine, string);
+    if (is_whole(length)) {
+        memory_read(string, all_words(length), index + HEAD_WORDS, into, count);
+    } else {
+        words_read(parts_of(string, length), index, into, count);
+    }
+}
+
+static void write_words(const Machine *machine, unsigned string, size_t index, const Word *from, size_t count) {
+    const size_t length = length_of(machine, string);
+    if (is_whole(length)) {
+        memory_write(string, all_words(length), index + HEAD_WORDS, from, count);
+    } else {
+        words_write(parts_of(string, length), index, from, count);
+    }
+}
+
+static Word get_word(const Machine *machine, unsigned string, size_t index) {
+    const size_t length = length_of(machine, string);
+    if (is_whole(length)) return memory_word(string, all_words(length), index + HEAD_WORDS);
+    return words_get(parts_of(string, length), index);
+}
+
+static void put_word(const Machine *machine, unsigned string, size_t index, Word word) {
+    const size_t length = length_of(machine, string);
+    if (is_whole(length)) {
+        memory_set_word(string, all_words(length), index + HEAD_WORDS, word);
+    } else {
+        words_put(parts_of(string, length), index, word);
+    }
 }
 
 void read_string_text(Machine *machine, unsigned string, size_t from, size_t to, size_t at) {
@@ -40,7 +78,7 @@ void read_string_text(Machine *machine, unsigned string, size_t from, size_t to,
         const size_t first = from / WORD_BYTES, left = words_of(to) - first;
         const size_t count = left < CHUNK_WORDS ? left : CHUNK_WORDS;
         const size_t end = (first + count) * WORD_BYTES < to ? (first + count) * WORD_BYTES : to;
-        read_words(string, first, chunk, count);
+        read_words(machine, string, first, chunk, count);
         memcpy(machine->text + at, (const char *)chunk + from % WORD_BYTES, end - from);
         at += end - from;
         from = end;
@@ -57,55 +95,53 @@ static void make_short_string(const Machine *machine, unsigned dest, const char 
     machine_new_with(machine, dest, no_sources, 0, chunk, HEAD_WORDS + words_of(length));
 }
 
-static void make_string_object(const Machine *machine, unsigned dest, size_t length) {
-    if (length > STRING_MOST) machine_fault(machine, "a string of more than %d bytes", STRING_MOST);
-    const size_t words = HEAD_WORDS + words_of(length);
-    if (!memory_words(dest, words)) {
-        machine_make_room(machine);
-        if (!memory_words(dest, words)) machine_full(machine);
-    }
-    machine_head(dest, REFERENCE(KIND_STRING, length));
-}
-
 void make_string_room(Machine *machine, unsigned dest, size_t length) {
-    make_string_object(machine, dest, length);
-    machine_set(machine, dest, REFERENCE(KIND_STRING, length));
+    const Word word = REFERENCE(KIND_STRING, length);
+    const uint32_t source = REGISTER_SCRATCH;
+    if (length > STRING_MOST) machine_fault(machine, "a string of more than %d bytes", STRING_MOST);
+    if (is_whole(length)) {
+        machine_words(machine, dest, all_words(length));
+        machine_head(dest, word);
+    } else {
+        machine_words(machine, source, words_of(length));
+        machine_new_with(machine, REGISTER_PART, &source, 1, &word, HEAD_WORDS);
+        memory_move(dest, REGISTER_PART);
+    }
+    machine_set(machine, dest, word);
 }
 
-void write_string_text(unsigned string, size_t at, const char *bytes, size_t count) {
+void write_string_text(const Machine *machine, unsigned string, size_t at, const char *bytes, size_t count) {
     Word chunk[CHUNK_WORDS];
     while (count) {
         const size_t skipped = at % WORD_BYTES, room = sizeof chunk - skipped, now = count < room ? count : room;
-        read_words(string, at / WORD_BYTES, chunk, words_of(skipped + now));
+        read_words(machine, string, at / WORD_BYTES, chunk, words_of(skipped + now));
         memcpy((char *)chunk + skipped, bytes, now);
-        write_words(string, at / WORD_BYTES, chunk, words_of(skipped + now));
+        write_words(machine, string, at / WORD_BYTES, chunk, words_of(skipped + now));
         at += now;
         bytes += now;
         count -= now;
     }
 }
 
-unsigned char string_byte(unsigned string, size_t at) {
-    Word word;
-    read_words(string, at / WORD_BYTES, &word, 1);
+unsigned char string_byte(const Machine *machine, unsigned string, size_t at) {
+    const Word word = get_word(machine, string, at / WORD_BYTES);
     return ((const unsigned char *)&word)[at % WORD_BYTES];
 }
 
 void make_string_of(Machine *machine, unsigned dest, const char *text, size_t length) {
     Word chunk[CHUNK_WORDS];
-    const bool is_short = length <= sizeof chunk;
-    if (is_short) {
+    if (length <= sizeof chunk) {
         make_short_string(machine, dest, text, length);
-    } else {
-        make_string_object(machine, dest, length);
+        machine_set(machine, dest, REFERENCE(KIND_STRING, length));
+        return;
     }
-    for (size_t from = is_short ? length : 0; from < length; from += sizeof chunk) {
+    make_string_room(machine, dest, length);
+    for (size_t from = 0; from < length; from += sizeof chunk) {
         const size_t bytes = length - from < sizeof chunk ? length - from : sizeof chunk;
         chunk[words_of(bytes) - 1] = 0;
         memcpy(chunk, text + from, bytes);
-        write_words(dest, from / WORD_BYTES, chunk, words_of(bytes));
+        write_words(machine, dest, from / WORD_BYTES, chunk, words_of(bytes));
     }
-    machine_set(machine, dest, REFERENCE(KIND_STRING, length));
 }
 
 void make_string_of_text(Machine *machine, unsigned dest, size_t length) { make_string_of(machine, dest, machine->text, length); }
@@ -128,17 +164,16 @@ void string_ref(Machine *machine, unsigned dest, unsigned string, unsigned index
     (void)unused;
     const size_t length = want_string(machine, "string-ref", string);
     const size_t at = want_index(machine, "string-ref", machine->word[index], length);
-    machine_set(machine, dest, PLAIN(KIND_CHARACTER, string_byte(string, at)));
+    machine_set(machine, dest, PLAIN(KIND_CHARACTER, string_byte(machine, string, at)));
 }
 
 void string_set(Machine *machine, unsigned dest, unsigned string, unsigned index, unsigned value) {
     (void)dest;
     const size_t length = want_string(machine, "string-set!", string);
     const size_t at = want_index(machine, "string-set!", machine->word[index], length);
-    Word word;
-    read_words(string, at / WORD_BYTES, &word, 1);
+    Word word = get_word(machine, string, at / WORD_BYTES);
     ((unsigned char *)&word)[at % WORD_BYTES] = want_character(machine, "string-set!", value);
-    write_words(string, at / WORD_BYTES, &word, 1);
+    put_word(machine, string, at / WORD_BYTES, word);
 }
 
 void string_append(Machine *machine, unsigned dest, unsigned left, unsigned right, unsigned unused) {

@@ -204,7 +204,7 @@ void machine_set_entry(Machine *machine, unsigned entry, unsigned source) {
         if (old == CHANGED || is_reference(old)) {
             if (old != CHANGED && !exchange(entry, old, CHANGED)) continue;
             const unsigned part = find_entry(entry, REGISTER_SCRATCH, &index);
-            machine_store_boxed(machine, part, index, word);
+            machine_store_boxed(machine, field_of(part, index), word);
             memory_nil(part);
             return;
         }

@@ -15,7 +15,7 @@ ghost use Rattle.lxr_heap.specs.declared.bulk.BodyReply.{BodyReply as BodyReplyO
 ghost use Rattle.lxr_c_base.specs.Codes.{Answer, answered as is_answered, code_in, flag as is_flag, number_of, told, written_over};
 ghost use Rattle.lxr_c_base.specs.Requests as asking;
 ghost use Rattle.lxr_c_base.specs.declared.codes.Code.{Code as CodeOf};
-ghost use Rattle.lxr_c_heap.specs.Calling.{AsksPause, Calls, Closes, Opens, SetsPace};
+ghost use Rattle.lxr_c_heap.specs.Calling.{AsksPause, Calls, Closes, Opens, Sets, SetsGrow, SetsPace, SetsRoom};
 ghost use Rattle.lxr_c_heap.specs.Hosting.{Makes, Replies, Stores};
 ghost use Rattle.lxr_c_heap.specs.Keeping.{registers_kept};
 ghost use Rattle.lxr_c_heap.specs.Looking as looking;
@@ -169,6 +169,18 @@ pub extern "C" fn lxr_new(heap: &mut Handle, dest: u32, refs: u32, words: u32) -
 pub extern "C" fn lxr_load(heap: &mut Handle, dest: u32, base: u32, index: u32) -> u32
     ensures { Calls Replies heap.old.block.value heap.new.block.value (asking.load (registers_kept heap.old.block.value) dest base index) result }
 {
+    if heap.try_load(dest, base, index) {
+        return Code::Done.number();
+    }
+    load_aside(heap, dest, base, index)
+}
+
+/// What `lxr_load` does where something may stand against it.
+#[cold]
+#[inline(never)]
+fn load_aside(heap: &mut Handle, dest: u32, base: u32, index: u32) -> u32
+    ensures { Calls Replies heap.old.block.value heap.new.block.value (asking.load (registers_kept heap.old.block.value) dest base index) result }
+{
     let request = requests::load(heap.registers(), dest, base, index);
     answered(heap.reply(request))
 }
@@ -187,6 +199,21 @@ pub extern "C" fn lxr_store(heap: &mut Handle, base: u32, index: u32, source: u3
 pub extern "C" fn lxr_get(heap: &mut Handle, base: u32, index: u32, word: &mut u64) -> u32
     ensures { Tells looking.word_in heap.old.block.value heap.new.block.value (asking.get (registers_kept heap.old.block.value) base index) result word.old word.new }
 {
+    match heap.try_get(base, index) {
+        None => get_aside(heap, base, index, word),
+        Some(found) => {
+            *word = found;
+            Code::Done.number()
+        }
+    }
+}
+
+/// What `lxr_get` does where something may stand against it.
+#[cold]
+#[inline(never)]
+fn get_aside(heap: &mut Handle, base: u32, index: u32, word: &mut u64) -> u32
+    ensures { Tells looking.word_in heap.old.block.value heap.new.block.value (asking.get (registers_kept heap.old.block.value) base index) result word.old word.new }
+{
     let request = requests::get(heap.registers(), base, index);
     let answer = heap.see(request);
     tell(word, word_in(answer));
@@ -196,6 +223,18 @@ pub extern "C" fn lxr_get(heap: &mut Handle, base: u32, index: u32, word: &mut u
 /// Data word `index` of the object that `base` holds becomes `word`.
 #[unsafe(no_mangle)]
 pub extern "C" fn lxr_put(heap: &mut Handle, base: u32, index: u32, word: u64) -> u32
+    ensures { Calls Replies heap.old.block.value heap.new.block.value (asking.put (registers_kept heap.old.block.value) base index word) result }
+{
+    if heap.try_put(base, index, word) {
+        return Code::Done.number();
+    }
+    put_aside(heap, base, index, word)
+}
+
+/// What `lxr_put` does where something may stand against it.
+#[cold]
+#[inline(never)]
+fn put_aside(heap: &mut Handle, base: u32, index: u32, word: u64) -> u32
     ensures { Calls Replies heap.old.block.value heap.new.block.value (asking.put (registers_kept heap.old.block.value) base index word) result }
 {
     let request = requests::put(heap.registers(), base, index, word);
@@ -294,6 +333,22 @@ pub extern "C" fn lxr_set_pace(heap: &mut Handle, bytes: u64) -> u32
     ensures { (answer : CodeOf) × SetsPace heap.old.block.value heap.new.block.value bytes answer × (result ≡ number_of answer) }
 {
     heap.set_pace(bytes).number()
+}
+
+/// A pause that is due collects from now on where more than so many blocks are in use; 0: all, so that none does by it.
+#[unsafe(no_mangle)]
+pub extern "C" fn lxr_set_room(heap: &mut Handle, blocks: u32) -> u32
+    ensures { (answer : CodeOf) × Sets (SetsRoom blocks) heap.old.block.value heap.new.block.value answer × (result ≡ number_of answer) }
+{
+    heap.set_room(blocks).number()
+}
+
+/// Each collecting pause from now on leaves room for so many hundredths more than what lives; 0: it leaves the room as it is.
+#[unsafe(no_mangle)]
+pub extern "C" fn lxr_set_grow(heap: &mut Handle, grow: u32) -> u32
+    ensures { (answer : CodeOf) × Sets (SetsGrow grow) heap.old.block.value heap.new.block.value answer × (result ≡ number_of answer) }
+{
+    heap.set_grow(grow).number()
 }
 
 /// Writes to `is_nil` 1 where register `source` is nil, and else 0.

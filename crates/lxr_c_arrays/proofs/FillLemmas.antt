@@ -36,7 +36,7 @@ abbrev pub renewals_with : Option (List Name) → List (List Name) → List (Lis
 renewals_with None earlier = earlier
 renewals_with (Some ns) earlier = ns ∷ earlier
 
-named_with : (names : Option (List Name)) (earlier : List (List Name)) (v : Option Name) → as_named names (as_renamed earlier v) ≡ as_renamed (renewals_with names earlier) v
+pub named_with : (names : Option (List Name)) (earlier : List (List Name)) (v : Option Name) → as_named names (as_renamed earlier v) ≡ as_renamed (renewals_with names earlier) v
 named_with None earlier v = refl
 named_with (Some ns) earlier v = refl
 
@@ -44,12 +44,12 @@ pub named_at : (names : Option (List Name)) (earlier : List (List Name)) (v : Op
 named_at names earlier None = refl
 named_at names earlier (Some v) = ap (λ q. Some q) (named_with names earlier v)
 
-named_lists : (names : Option (List Name)) (earlier : List (List Name)) (v : Option (List (Option Name))) → option_map (map (as_named names)) (option_map (map (as_renamed earlier)) v) ≡ option_map (map (as_renamed (renewals_with names earlier))) v
+pub named_lists : (names : Option (List Name)) (earlier : List (List Name)) (v : Option (List (Option Name))) → option_map (map (as_named names)) (option_map (map (as_renamed earlier)) v) ≡ option_map (map (as_renamed (renewals_with names earlier))) v
 named_lists names earlier None = refl
 named_lists None earlier (Some vs) = ap (λ q. Some q) (map-id (map (as_renamed earlier) vs))
 named_lists (Some ns) earlier (Some vs) = ap (λ q. Some q) (map-map (renewed_held ns) (as_renamed earlier) vs)
 
-renewed_bodies : (names : Option (List Name)) (earlier : List (List Name)) (s u : LargeState) → u.large ≡ (with_renewals earlier s).large → (with_names names u).large ≡ (with_renewals (renewals_with names earlier) s).large
+pub renewed_bodies : (names : Option (List Name)) (earlier : List (List Name)) (s u : LargeState) → u.large ≡ (with_renewals earlier s).large → (with_names names u).large ≡ (with_renewals (renewals_with names earlier) s).large
 renewed_bodies None earlier s u same = same
 renewed_bodies (Some ns) earlier s u same = named_bodies (Some ns) (with_renewals earlier s) u same
 

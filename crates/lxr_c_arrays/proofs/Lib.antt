@@ -11,3 +11,4 @@ pub mod PartLemmas
 pub mod FillLemmas
 pub mod CopyLemmas
 pub mod RootLemmas
+pub mod OwnLemmas

@@ -1,5 +1,5 @@
 -- A new array of up to 1,023 elements: they are nil.
-use Rattle.std.proofs.Common.{◌≡◌, ◌≢◌, ℕ, ◌<◌, ◌∙◌, sym, ap, subst, arith, cond, inl, inr, false, Some, None, List, [], ◌∷◌, length}
+use Rattle.std.proofs.Common.{◌≡◌, ◌≢◌, ℕ, ◌<◌, ◌∙◌, refl, sym, ap, subst, arith, cond, inl, inr, Some, None, List, [], ◌∷◌, length}
 use Rattle.std.specs.Prelude.{IsTrue, is_some, min, option_map, replicate, slice_get, unwrap_or, if◌then◌else◌, Ok}
 use Rattle.std.proofs.lemmas.Bool.{le-leb}
 use Rattle.lxr_layout.specs.declared.Name.{Name}
@@ -16,17 +16,19 @@ use Rattle.lxr_large_model.specs.declared.LargeOp.TheVariants as large_op
 use Rattle.lxr_large_model.specs.declared.LargeReply.{LargeReply}
 use Rattle.lxr_large_model.specs.declared.LargeReply.TheVariants as large_reply
 use Rattle.lxr_large_model.specs.Full.{LargeReplies, LargeTerms}
-use Rattle.lxr_large_model.specs.History.{LargeItem, large_state}
+use Rattle.lxr_large_model.specs.History.{LargeItem, large_moment, large_state}
 use Rattle.lxr_large_model.specs.State.{LargeState}
 use Rattle.lxr_large_model.specs.Step.{large_after}
-use Rattle.lxr_heap.specs.Holding.{abstract_after, terms_of}
+use Rattle.lxr_heap.specs.declared.heap.Heap.{Heap}
+use Rattle.lxr_heap.specs.Holding.{IsHeapOf, abstract_after, terms_of}
+use Rattle.lxr_core_invariant.proofs.HeldLemmas.{IsHeld, in_register}
 use Rattle.lxr_heap.proofs.HeapLemmas.{one_thread}
 use Rattle.lxr_heap.proofs.MomentLemmas.{two_rows}
 use Rattle.lxr_c_base.specs.Codes.{code_of}
 use Rattle.lxr_c_base.specs.declared.codes.Code.TheVariants as code
 use Rattle.lxr_c_heap.specs.declared.host.HostHeap.{HostHeap}
 use Rattle.lxr_c_heap.specs.declared.host.TheConstants.{ENDS}
-use Rattle.lxr_c_heap.specs.Hosting.{IsDue, IsHostOf}
+use Rattle.lxr_c_heap.specs.Hosting.{IsDue, IsHostOf, exceeds_room}
 use Rattle.lxr_c_many.specs.Fields.{references_in, words_in}
 use Rattle.lxr_c_many.specs.declared.applying.Told.{Told}
 use Rattle.lxr_c_many.specs.declared.asked.Asked.{Asked}
@@ -51,6 +53,17 @@ pub record GotObject (s u : LargeState) (dest : ℕ) (shape : Shape) : Type 0 wh
   pub registers : length s.small.registers ≡ REGISTERS
   pub after : u ≡ record s { small = (make s.small 1 dest (fresh shape) (next_name s.small.graph 1)).0 }
 
+-- what registers refer to is there
+abbrev pub AreThere : LargeState → Type 0
+AreThere s = (r : ℕ) (n : Name) → register_at s.small 1 r ≡ Some n → HasObject s.small.graph n
+
+held_there : (x : Heap) (h : List LargeItem) → IsHeapOf x h → AreThere (large_state h)
+held_there x h is r n held =
+    let m = large_moment h in
+    let member = subst (IsHeld m) (ap (λ (z : State). register_at z 1 r) is.state ∙ held) (in_register m 1 r is.rests.safepoint.holds.follows) in
+    let (o, found, stands) = is.rests.safepoint.holds.image.image.stands n member in
+    subst (λ q. IsTrue (is_some q)) (sym (sym (ap (λ (z : State). object_at z.graph n) is.state) ∙ found)) refl
+
 -- success tells of an object
 reply_new : (terms : LargeTerms) (h : List LargeItem) (dest : ℕ) (shape : Shape) (r : LargeReply) → LargeReplies terms h (large_op.Small (op.New dest shape)) r → code_of r ≡ code.Done
     → r ≡ large_reply.Small (reply.New (next_name (large_state h).small.graph 1))
@@ -64,6 +77,7 @@ pub record MakesFirst (h : List LargeItem) (dest : ℕ) (shape : Shape) (ops : L
   pub before : LargeState
   pub host : IsHostOf heap history
   pub settled : Settled (large_state h) before
+  pub there : AreThere before
   pub made : GotObject before (large_state history) dest shape
   pub rest : Runs heap history ops y k code.Done
 
@@ -83,8 +97,9 @@ make_first x y h k dest refs values ops is (m, j, t, (r, makes, left, told), inl
       host = performs_host x m h j (new_of dest refs values) t is (r, makes, left, told);
       settled = subst (Settled (large_state h))
           (sym (paused_state (large_op.Small (op.New dest shape)) makes.paused makes.acts.middle makes.paused_history b makes.acts.pauses
-          ∙ where_state (IsDue makes.settled makes.settled_history) false makes.settled makes.paused makes.settled_history makes.paused_history makes.pauses))
+          ∙ where_state (IsDue makes.settled makes.settled_history) (exceeds_room makes.settled) makes.settled makes.paused makes.settled_history makes.paused_history makes.pauses))
           (settling ENDS x makes.settled h makes.settled_history makes.settles);
+      there = held_there makes.acts.middle.heap b host.heap;
       made = record {
         rows = omega (arith, two, same);
         registers = all_registers makes.acts.middle.heap b host.heap;
@@ -121,6 +136,12 @@ module _ (s u : LargeState) (dest : ℕ) (shape : Shape) (made : GotObject s u d
 
   pub old_register : (r : ℕ) → r ≢ dest → register_at u.small 1 r ≡ register_at s.small 1 r
   old_register r apart = ap (λ (z : LargeState). register_at z.small 1 r) made.after ∙ other_register s.small dest r (Some next) apart
+
+  -- but for the new object, which no other register refers to
+  pub new_apart : (r : ℕ) → r ≢ dest → AreThere s → register_at u.small 1 r ≢ Some next
+  new_apart r apart there e =
+      let none : IsTrue (is_some {T = Object} None) = subst (λ o. IsTrue (is_some o)) (next_none s.small.graph 1) (there r next (sym (old_register r apart) ∙ e)) in
+      absurd (cc)
 
 -- ---- a whole array
 

@@ -7,6 +7,7 @@ use Rattle.std.proofs.lemmas.Option.{get_or_from_slice_get, same_Some, slice_get
 use Rattle.lxr_layout.specs.declared.Name.{Name}
 use Rattle.lxr_layout.specs.declared.Shape.{Shape}
 use Rattle.lxr_layout.specs.declared.TheConstants.{REGISTERS}
+use Rattle.lxr_graph.specs.Names.{same_name}
 use Rattle.lxr_graph.specs.Renewing.{renewed_held}
 use Rattle.lxr_graph.specs.State.{HasObject, Object, object_at, refs_of, register_at, values_of, with_register, with_value}
 use Rattle.lxr_graph.specs.Step.{fresh, put_at, put_to}
@@ -14,10 +15,11 @@ use Rattle.lxr_graph.proofs.RowLemmas.{object_at-with_value, slice_get-set}
 use Rattle.lxr_graph.proofs.NameSets.{same_itself}
 use Rattle.lxr_large_model.specs.State.{LargeState}
 use Rattle.lxr_c_heap.specs.declared.own.OwnRegisters.{OwnRegisters}
-use Rattle.lxr_c_arrays.specs.Elements.{NewRootsHaveNils, as_named, element_in, elements_at, elements_of, references_of}
+use Rattle.lxr_c_arrays.specs.Elements.{HasMadeRoot, NewRootsHaveNils, as_named, as_renamed, element_in, elements_at, elements_of, references_of, with_renewals}
 use Rattle.lxr_c_arrays.specs.Plans.{IsNewArray, own_nil, part_length, part_steps, parts_plan, root_steps}
-use Rattle.lxr_c_arrays.proofs.NewLemmas.{GotObject, make_first, new_held, new_object, next, old_object, old_register}
-use Rattle.lxr_c_arrays.proofs.SettleLemmas.{Settled, named_object}
+use Rattle.lxr_c_arrays.proofs.NewLemmas.{AreThere, GotObject, make_first, new_apart, new_held, new_object, next, old_object, old_register}
+use Rattle.lxr_c_arrays.proofs.FillLemmas.{named_lists, named_with, renewals_with, renewed_bodies}
+use Rattle.lxr_c_arrays.proofs.SettleLemmas.{Settled, named_object, same_references}
 use Rattle.lxr_c_arrays.proofs.StoreLemmas.{SetReference, changed_now, held_now, object_now, store_first, unlike}
 use Rattle.std.specs.List.{range_with_len}
 use Rattle.lxr_graph.specs.declared.Op.TheVariants as op
@@ -151,6 +153,70 @@ module _ (own : OwnRegisters) (elements total n : ℕ) where
         ];
       }
 
+-- ---- what else there is
+
+-- What the host's registers hold is as it was, and what it refers to too, by the names of the renewals.
+record Beside (registers : ℕ) (s u : LargeState) : Type 0 where
+  pub renewals : List (List Name)
+  pub held : (r : ℕ) → r < registers → register_at u.small 1 r ≡ as_renamed renewals (register_at s.small 1 r)
+  pub references : (r : ℕ) → r < registers → references_in u r ≡ option_map (map (as_renamed renewals)) (references_in s r)
+  pub words : (r : ℕ) → r < registers → words_in u r ≡ words_in s r
+  pub bodies : u.large ≡ (with_renewals renewals s).large
+
+-- and the root is nothing that they hold
+abbrev IsApart : ℕ → ℕ → LargeState → Type 0
+IsApart registers root u = (r : ℕ) → r < registers → register_at u.small 1 r ≢ register_at u.small 1 root
+
+beside_same : (registers : ℕ) (s : LargeState) → Beside registers s s
+beside_same registers s = record { renewals = []; held = λ r less. refl; references = λ r less. same_references (references_in s r); words = λ r less. refl; bodies = refl }
+
+beside_settled : (registers : ℕ) (s u b : LargeState) → Beside registers s u → Settled u b → Beside registers s b
+beside_settled registers s u b rest settled =
+    let names = settled.names in
+    record {
+      renewals = renewals_with names rest.renewals;
+      held = λ r less. settled.registers r ∙ ap (as_named names) (rest.held r less) ∙ named_with names rest.renewals (register_at s.small 1 r);
+      references = λ r less. settled.references r ∙ ap (option_map (map (as_named names))) (rest.references r less) ∙ named_lists names rest.renewals (references_in s r);
+      words = λ r less. settled.words r ∙ rest.words r less;
+      bodies = ap (λ (z : LargeState). z.large) settled.state ∙ renewed_bodies names rest.renewals s u rest.bodies;
+    }
+
+-- what a register refers to is as it was where the register is, and the object
+same_fields : {A : Type 0} (f : Option Object → A) (u w : LargeState) (r : ℕ) → register_at w.small 1 r ≡ register_at u.small 1 r
+    → ((n : Name) → register_at u.small 1 r ≡ Some n → object_at w.small.graph n ≡ object_at u.small.graph n)
+    → option_map (λ n. f (object_at w.small.graph n)) (register_at w.small 1 r) ≡ option_map (λ n. f (object_at u.small.graph n)) (register_at u.small 1 r)
+same_fields {A} f u w r same objects = ap (option_map (λ n. f (object_at w.small.graph n))) same ∙ at_held (register_at u.small 1 r) refl
+  where
+    at_held : (v : Option Name) → register_at u.small 1 r ≡ v → option_map (λ n. f (object_at w.small.graph n)) (register_at u.small 1 r) ≡ option_map (λ n. f (object_at u.small.graph n)) (register_at u.small 1 r)
+    at_held None e = ap (option_map (λ n. f (object_at w.small.graph n))) e ∙ sym (ap (option_map (λ n. f (object_at u.small.graph n))) e)
+    at_held (Some n) e = ap (option_map (λ m. f (object_at w.small.graph m))) e ∙ ap (λ o. Some (f o)) (objects n e) ∙ sym (ap (option_map (λ m. f (object_at u.small.graph m))) e)
+
+beside_over : (registers : ℕ) (s u w : LargeState) → Beside registers s u → ((r : ℕ) → r < registers → register_at w.small 1 r ≡ register_at u.small 1 r)
+    → ((r : ℕ) (n : Name) → r < registers → register_at u.small 1 r ≡ Some n → object_at w.small.graph n ≡ object_at u.small.graph n) → w.large ≡ u.large → Beside registers s w
+beside_over registers s u w rest same objects bodies = record {
+  renewals = rest.renewals;
+  held = λ r less. same r less ∙ rest.held r less;
+  references = λ r less. same_fields refs_of u w r (same r less) (λ n e. objects r n less e) ∙ rest.references r less;
+  words = λ r less. same_fields values_of u w r (same r less) (λ n e. objects r n less e) ∙ rest.words r less;
+  bodies = bodies ∙ rest.bodies;
+}
+
+-- an object was made, in a register of the library's own
+beside_new : (registers dest : ℕ) (s b w : LargeState) (shape : Shape) → registers ≤ dest → AreThere b → Beside registers s b → GotObject b w dest shape → Beside registers s w
+beside_new registers dest s b w shape more there rest made =
+    beside_over registers s b w rest (λ r less. old_register b w dest shape made r (λ e. omega (arith, e, less, more))) (λ r n less e. old_object b w dest shape made n (there r n e))
+    (ap (λ (z : LargeState). z.large) made.after)
+
+-- a reference was stored, of an object that none of the host's registers hold
+beside_stored : (registers root i source : ℕ) (s u b w : LargeState) → IsApart registers root b → Beside registers s b → (settled : Settled u b) → SetReference b w root i source → Beside registers s w
+beside_stored registers root i source s u b w apart rest settled set =
+    beside_over registers s b w rest (λ r less. ap (λ (z : LargeState). register_at z.small 1 r) set.after)
+    (λ r n less e.
+    let other : n ≢ set.name = λ same. apart r less (e ∙ ap (λ q. Some q) same ∙ sym set.held) in
+    object_now u b root i source settled w set n
+    ∙ ap (λ c. cond c (Some (record set.object { refs = slice_set set.object.refs i (register_at b.small 1 source) })) (object_at b.small.graph n)) (unlike n set.name other))
+    (ap (λ (z : LargeState). z.large) set.after)
+
 -- ---- the operations
 
 put_is : (s : LargeState) (base value word : ℕ) (root : Name) (o : Object) → register_at s.small 1 base ≡ Some root → object_at s.small.graph root ≡ Some o → slice_get o.values 0 ≡ Some word
@@ -175,12 +241,16 @@ move_last x y h k dest source is (m, j, t, (r, replies, left, told), inl (done, 
 move_last x y h k dest source is (m, j, t, performs, inr (failed, same, left, told)) = absurd (failed (sym told))
 
 module _ (own : OwnRegisters) (elements total : ℕ) (apart : own.first ≢ own.second) (few : own.first < REGISTERS) (room : own.second < REGISTERS) where
-  part_rounds : (x y : HostHeap) (h k : List LargeItem) (n : ℕ) → IsHostOf x h → n ≤ total → Parts own elements total 0 (large_state h) → Runs x h (in_turn (part_steps own elements) n) y k code.Done
-      → Parts own elements total n (large_state k)
-  part_rounds x y h k zero is within had (same, left, done) = subst (λ l. Parts own elements total 0 (large_state l)) (sym left) had
-  part_rounds x y h k (suc n) is within had ran =
+  -- so many parts were made, and what else there is is as it was
+  abbrev HasParts : ℕ → LargeState → ℕ → LargeState → Type 0
+  HasParts registers s n u = Parts own elements total n u × Beside registers s u × IsApart registers own.first u
+
+  part_rounds : (registers : ℕ) (s : LargeState) (x y : HostHeap) (h k : List LargeItem) (n : ℕ) → registers ≤ own.second → IsHostOf x h → n ≤ total → HasParts registers s 0 (large_state h)
+      → Runs x h (in_turn (part_steps own elements) n) y k code.Done → HasParts registers s n (large_state k)
+  part_rounds registers s x y h k zero more is within had (same, left, done) = subst (λ l. HasParts registers s 0 (large_state l)) (sym left) had
+  part_rounds registers s x y h k (suc n) more is within had ran =
       let (m, j, before, last) = runs_apart x y h k (in_turn (part_steps own elements) n) (part_steps own elements n) ran in
-      let parts = part_rounds x m h j n is (omega (arith, within)) had before in
+      let (parts, beside, apart_before) = part_rounds registers s x m h j n more is (omega (arith, within)) had before in
       let host = runs_host x m h j (in_turn (part_steps own elements) n) code.Done is before in
       let new = make_first m y j k own.second (part_length elements n) 0 (store_of own.first n own.second ∷ []) host last in
       let shape : Shape = part_shape elements n in
@@ -191,11 +261,20 @@ module _ (own : OwnRegisters) (elements total : ℕ) (apart : own.first ≢ own.
       let c = one.before in
       let v : LargeState = large_state one.history in
       let part = held_settled own elements total n w c own.second shape (next b w own.second shape new.made, new_held b w own.second shape new.made room, new_object b w own.second shape new.made) one.settled in
-      subst (λ l. Parts own elements total (suc n) (large_state l)) (sym one.rest.1)
-      (part_stored own elements total n w c v (omega (arith, within)) (parts_settled own elements total n w c made one.settled) part one.settled one.set)
+      let second_apart : (r : ℕ) → r < registers → r ≢ own.second = λ r less e. omega (arith, e, less, more) in
+      let kept = beside_settled registers s w c (beside_new registers own.second s b w shape more new.there (beside_settled registers s (large_state j) b beside new.settled) new.made) one.settled in
+      let apart_made : IsApart registers own.first w = λ r less e.
+      apart_before r less (new.settled.apart r own.first (sym (old_register b w own.second shape new.made r (second_apart r less)) ∙ e ∙ old_register b w own.second shape new.made own.first apart)) in
+      let apart_now : IsApart registers own.first c = λ r less e. apart_made r less (one.settled.apart r own.first e) in
+      subst (λ l. HasParts registers s (suc n) (large_state l)) (sym one.rest.1) (
+        part_stored own elements total n w c v (omega (arith, within)) (parts_settled own elements total n w c made one.settled) part one.settled one.set,
+        beside_stored registers own.first n own.second s w c v apart_now kept one.settled one.set,
+        λ r less e. apart_now r less (sym (ap (λ (z : LargeState). register_at z.small 1 r) one.set.after) ∙ e ∙ ap (λ (z : LargeState). register_at z.small 1 own.first) one.set.after),
+      )
 
-  root_begun : (x y : HostHeap) (h k : List LargeItem) → IsHostOf x h → Runs x h (new_of own.first total 1 ∷ put_of own.first 0 elements ∷ []) y k code.Done → Parts own elements total 0 (large_state k)
-  root_begun x y h k is ran =
+  root_begun : (registers : ℕ) (x y : HostHeap) (h k : List LargeItem) → registers ≤ own.first → IsHostOf x h → Runs x h (new_of own.first total 1 ∷ put_of own.first 0 elements ∷ []) y k code.Done
+      → HasParts registers (large_state h) 0 (large_state k)
+  root_begun registers x y h k more is ran =
       let shape : Shape = record { refs = total; values = 1 } in
       let new = make_first x y h k own.first total 1 (put_of own.first 0 elements ∷ []) is ran in
       let b = new.before in
@@ -205,16 +284,28 @@ module _ (own : OwnRegisters) (elements total : ℕ) (apart : own.first ≢ own.
       let held = new_held b w own.first shape new.made few in
       let there = new_object b w own.first shape new.made in
       let after = put.1 ∙ put_is w own.first elements 0 root (fresh shape) held there refl in
-      record {
-        root = root;
-        object = record (fresh shape) { values = elements ∷ [] };
-        held = ap (λ (z : LargeState). register_at z.small 1 own.first) after ∙ held;
-        there = ap (λ (z : LargeState). object_at z.small.graph root) after ∙ object_at-with_value w.small.graph root 0 elements (fresh shape) root there
-            ∙ ap (λ c. cond c (Some (record (fresh shape) { values = elements ∷ [] })) (object_at w.small.graph root)) (same_itself root);
-        values = refl;
-        long = length-replicate total None;
-        parts = λ k less. absurd (omega (arith, less));
-      }
+      let changed : Object = record (fresh shape) { values = elements ∷ [] } in
+      let register_is : (r : ℕ) → register_at (large_state k).small 1 r ≡ register_at w.small 1 r = λ r. ap (λ (z : LargeState). register_at z.small 1 r) after in
+      let object_is : (n : Name) → object_at (large_state k).small.graph n ≡ cond (same_name n root) (Some changed) (object_at w.small.graph n) =
+      λ n. ap (λ (z : LargeState). object_at z.small.graph n) after ∙ object_at-with_value w.small.graph root 0 elements (fresh shape) n there in
+      let first_apart : (r : ℕ) → r < registers → r ≢ own.first = λ r less e. omega (arith, e, less, more) in
+      let apart_new : (r : ℕ) → r < registers → register_at w.small 1 r ≢ Some root = λ r less. new_apart b w own.first shape new.made r (first_apart r less) new.there in
+      let s : LargeState = large_state h in (
+        record {
+          root = root;
+          object = changed;
+          held = register_is own.first ∙ held;
+          there = object_is root ∙ ap (λ c. cond c (Some changed) (object_at w.small.graph root)) (same_itself root);
+          values = refl;
+          long = length-replicate total None;
+          parts = λ k less. absurd (omega (arith, less));
+        },
+        beside_over registers s w (large_state k) (beside_new registers own.first s b w shape more new.there (beside_settled registers s s b (beside_same registers s) new.settled) new.made)
+            (λ r less. register_is r)
+            (λ r n less e. object_is n ∙ ap (λ c. cond c (Some changed) (object_at w.small.graph n)) (unlike n root (λ same. apart_new r less (e ∙ ap (λ q. Some q) same))))
+            (ap (λ (z : LargeState). z.large) after),
+        λ r less e. apart_new r less (sym (register_is r) ∙ e ∙ register_is own.first ∙ held),
+      )
 
 -- ---- the elements
 
@@ -258,7 +349,7 @@ root_nils own elements dest u w parts most same held =
 
 rooted : (x m y : HostHeap) (h j k : List LargeItem) (wanted : NewArray) (own : OwnRegisters) → IsHostOf x h → IsNewArray (registers_in x) wanted → own_in x ≡ Some own
     → Runs x h (root_steps own wanted.length ++ move_of wanted.dest own.first ∷ []) m j code.Done → Runs m j (own_nil own) y k code.Done
-    → (l : List LargeItem) × IsHostOf y l × (elements_at (large_state l) wanted.dest ≡ Some (replicate wanted.length None))
+    → (l : List LargeItem) × IsHostOf y l × HasMadeRoot (registers_in x) wanted (large_state h) (large_state l)
 rooted x m y h j k wanted own is (small, most) has ran ended =
     let few = few_registers x h is in
     let one = own_first x own has in
@@ -274,7 +365,9 @@ rooted x m y h j k wanted own is (small, most) has ran ended =
     let differ : own.first ≢ own.second = λ e. omega (arith, e, one, two) in
     let low : own.first < REGISTERS = omega (arith, few, a) in
     let high : own.second < REGISTERS = omega (arith, few, b) in
-    let parts = part_rounds own wanted.length total differ low high m2 m1 j2 j1 total host2 (omega arith) (root_begun own wanted.length total differ low high x m2 h j2 is begun) rounds in
+    let (parts, beside, apart) =
+    part_rounds own wanted.length total differ low high (registers_in x) (large_state h) m2 m1 j2 j1 total (omega (arith, two)) host2 (omega arith)
+    (root_begun own wanted.length total differ low high (registers_in x) x m2 h j2 (omega (arith, one)) is begun) rounds in
     let move = move_last m1 m j1 j wanted.dest own.first host1 moved in
     let (p, l, before, last) = runs_apart m y j k (nil_of own.first ∷ []) (nil_of own.second ∷ []) ended in
     let once = nil_last m p j l own.first move.0 before in
@@ -289,12 +382,26 @@ rooted x m y h j k wanted own is (small, most) has ran ended =
     let held : register_at w.small 1 wanted.dest ≡ Some parts.root =
     other_register w2.small own.second wanted.dest None no_second ∙ other_register w1.small own.first wanted.dest None no_first
     ∙ changed_register u.small wanted.dest (register_at u.small 1 own.first) (all_registers m1.heap j1 host1.heap) (omega (arith, few, small)) ∙ parts.held in
-    (k, twice.0, subst (λ (z : LargeState). elements_at z wanted.dest ≡ Some (replicate wanted.length None)) (sym is_w) (root_nils own wanted.length wanted.dest u w parts most refl held))
+    let same : (r : ℕ) → r < registers_in x → r ≢ wanted.dest → register_at w.small 1 r ≡ register_at u.small 1 r =
+    λ r less other.
+    other_register w2.small own.second r None (λ e. omega (arith, e, two, less)) ∙ other_register w1.small own.first r None (λ e. omega (arith, e, one, less))
+    ∙ other_register u.small wanted.dest r (register_at u.small 1 own.first) other in (
+      k,
+      twice.0,
+      subst (HasMadeRoot (registers_in x) wanted (large_state h)) (sym is_w) (record {
+        elements = root_nils own wanted.length wanted.dest u w parts most refl held;
+        renewals = beside.renewals;
+        held = λ r less other. same r less other ∙ beside.held r less;
+        references = λ r less other. same_fields refs_of u w r (same r less other) (λ n e. refl) ∙ beside.references r less;
+        words = λ r less other. same_fields values_of u w r (same r less other) (λ n e. refl) ∙ beside.words r less;
+        bodies = beside.bodies;
+      }),
+    )
 
 pub new_roots_have_nils : NewRootsHaveNils
 new_roots_have_nils x y h wanted is fits large carried =
     at_own (own_in x) refl (subst (λ b. Carries x y h (if b then Ok (record { steps = new_of wanted.dest wanted.length 0 ∷ []; last = [] }) else parts_plan (own_in x) wanted) code.Done) (lt-leb wanted.length 1023 large) carried)
   where
-    at_own : (own : Option OwnRegisters) → own_in x ≡ own → Carries x y h (parts_plan own wanted) code.Done → (l : List LargeItem) × IsHostOf y l × (elements_at (large_state l) wanted.dest ≡ Some (replicate wanted.length None))
+    at_own : (own : Option OwnRegisters) → own_in x ≡ own → Carries x y h (parts_plan own wanted) code.Done → (l : List LargeItem) × IsHostOf y l × HasMadeRoot (registers_in x) wanted (large_state h) (large_state l)
     at_own None none (told, same) = absurd (cc)
     at_own (Some own) there (m, j, k, ran, ended) = rooted x m y h j k wanted own is fits there ran ended

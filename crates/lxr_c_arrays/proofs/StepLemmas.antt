@@ -1,17 +1,52 @@
--- What a register that becomes nil is replied.
-use Rattle.std.proofs.Common.{◌≡◌, ℕ, ◌∙◌, sym, ap, List}
+-- One operation, as the heap does it, is a list of one.
+use Rattle.std.proofs.Common.{◌≡◌, ℕ, refl, sym, ap, List, [], ◌∷◌}
+use Rattle.lxr_graph.specs.declared.Op.TheVariants as op
 use Rattle.lxr_graph.specs.declared.Reply.TheVariants as reply
+use Rattle.lxr_heap.specs.Holding.{IsHeapOf}
+use Rattle.lxr_large_model.specs.declared.LargeOp.{LargeOp}
+use Rattle.lxr_large_model.specs.declared.LargeOp.TheVariants as large_op
+use Rattle.lxr_large_model.specs.declared.LargeReply.{LargeReply}
 use Rattle.lxr_large_model.specs.declared.LargeReply.TheVariants as large_reply
-use Rattle.lxr_large_model.specs.History.{LargeItem}
+use Rattle.lxr_large_model.specs.History.{LargeItem, Called}
 use Rattle.lxr_c_base.specs.declared.codes.Code.TheVariants as code
 use Rattle.lxr_c_base.specs.Codes.{code_of}
 use Rattle.lxr_c_heap.specs.declared.host.HostHeap.{HostHeap}
-use Rattle.lxr_c_many.specs.declared.applying.Told.{Told}
-use Rattle.lxr_c_many.specs.Applying.{Performs}
-use Rattle.lxr_c_arrays.specs.Operations.{nil_of}
+use Rattle.lxr_c_heap.specs.Hosting.{IsHostOf, Makes, Replies, Stores}
+use Rattle.lxr_c_heap.proofs.RegisterLemmas.{known, made_all, made_keeps, replied_all, replied_keeps, stored_all, stored_keeps}
+use Rattle.lxr_c_heap.proofs.RoomLemmas.{SomeHistory}
+use Rattle.lxr_c_many.specs.declared.asked.Asked.TheVariants as asked
+use Rattle.lxr_c_many.specs.Applying.{told_by}
+use Rattle.lxr_c_arrays.specs.Running.{InTurn, SameRegisters}
+use Rattle.lxr_c_arrays.proofs.RunLemmas.{ran_one}
 
--- success, always
-pub nil_done : (x y : HostHeap) (h k : List LargeItem) (dest : ℕ) (t : Told) → Performs x h (nil_of dest) y k t → t.code ≡ code.Done
-nil_done x y h k dest t (r, replies, same, tells) =
-    let told : large_reply.Small reply.Cleared ≡ r = replies.heap.holds.legal.1.reply in
-    ap (λ (u : Told). u.code) tells ∙ ap code_of (sym told)
+module _ (x y : HostHeap) (o : LargeOp) (r : LargeReply) where
+  pub made_in_turn : ((h : List LargeItem) → IsHostOf x h → Makes x y h o r) → InTurn x (asked.Make o ∷ []) y (code_of r)
+  made_in_turn made = λ h is.
+      let makes = made h is in
+      let k : List LargeItem = Called o r ∷ makes.acts.history in
+      (k, ran_one x y h k (asked.Make o) (told_by r) (r, makes, refl, refl))
+
+  pub stored_in_turn : ((h : List LargeItem) → IsHostOf x h → Stores x y h o r) → InTurn x (asked.Store o ∷ []) y (code_of r)
+  stored_in_turn stored = λ h is.
+      let stores = stored h is in
+      let k : List LargeItem = Called o r ∷ stores.acts.history in
+      (k, ran_one x y h k (asked.Store o) (told_by r) (r, stores, refl, refl))
+
+  pub replied_in_turn : ((h : List LargeItem) → IsHeapOf x.heap h → Replies x y h o r) → InTurn x (asked.Reply o ∷ []) y (code_of r)
+  replied_in_turn replied = λ h is.
+      let k : List LargeItem = Called o r ∷ h in
+      (k, ran_one x y h k (asked.Reply o) (told_by r) (r, replied h is.heap, refl, refl))
+
+  -- and there are as many registers
+  pub made_same : SomeHistory x → ((h : List LargeItem) → IsHostOf x h → Makes x y h o r) → SameRegisters x y
+  made_same some made = record { named = known x _ _ some (λ h is. made_keeps x y h o r (made h is)); all = known x _ _ some (λ h is. made_all x y h o r (made h is)) }
+
+  pub stored_same : SomeHistory x → ((h : List LargeItem) → IsHostOf x h → Stores x y h o r) → SameRegisters x y
+  stored_same some stored = record { named = known x _ _ some (λ h is. stored_keeps x y h o r (stored h is)); all = known x _ _ some (λ h is. stored_all x y h o r (stored h is)) }
+
+  pub replied_same : SomeHistory x → ((h : List LargeItem) → IsHeapOf x.heap h → Replies x y h o r) → SameRegisters x y
+  replied_same some replied = record { named = known x _ _ some (λ h is. replied_keeps x y h o r (replied h is.heap)); all = known x _ _ some (λ h is. replied_all x y h o r (replied h is.heap)) }
+
+-- a register that becomes nil is replied success, always
+pub nil_done : (x y : HostHeap) (h : List LargeItem) (dest : ℕ) (r : LargeReply) → Replies x y h (large_op.Small (op.Nil dest)) r → code_of r ≡ code.Done
+nil_done x y h dest r replies = let told : large_reply.Small reply.Cleared ≡ r = replies.heap.holds.legal.1.reply in ap code_of (sym told)

@@ -28,8 +28,8 @@ references_of g (Some n) = refs_of (object_at g n)
 abbrev pub element_in : Graph → List (Option Name) → ℕ → Option Name
 element_in g parts i = slice_index_or (references_of g (slice_index_or parts (i / PART) None)) (i % PART) None
 
--- The elements of an object with these references, by its length as a root: of an object without data words its references, and of a root those of its
--- parts one after another, up to its length.
+-- The elements of an object with these references, by its length as a root: of an object without data words its references, and of a root those of
+-- its parts one after another, up to its length.
 abbrev pub elements_of : Graph → List (Option Name) → Option ℕ → List (Option Name)
 elements_of g references None = references
 elements_of g parts (Some elements) = map (element_in g parts) (range_with_len 0 (min elements (PART * length parts)))
@@ -50,8 +50,8 @@ LengthCountsElements = (s : LargeState) (base : ℕ) → array_length s base ≡
 
 -- ---- loads
 
--- An element was loaded, from state s to u: the other register holds it, each other one that the host may name holds what it held, and each object and
--- body is as it was.
+-- An element was loaded, from state s to u: the other register holds it, each other one that the host may name holds what it held, and each object
+-- and body is as it was.
 pub record HasLoaded (registers index : ℕ) (pair : Pair) (s u : LargeState) : Type 0 where
   pub element : element_at s pair.array index ≡ Some (register_at u.small 1 pair.other)
   pub others : (r : ℕ) → r < registers → r ≢ pair.other → register_at u.small 1 r ≡ register_at s.small 1 r
@@ -76,9 +76,9 @@ abbrev pub as_named : Option (List Name) → Option Name → Option Name
 as_named None = λ v. v
 as_named (Some ns) = renewed_held ns
 
--- An element of a whole array was stored to, from state s to u. Its elements are those that it had, but for this one, which is what the other register
--- held; each register that the host may name holds what it held, and each other object and each body is as it was. Where the heap renewed its names
--- on the way, all that is so by the new names.
+-- An element of a whole array was stored to, from state s to u. Its elements are those that it had, but for this one, which is what the other
+-- register held; each register that the host may name holds what it held, and each other object and each body is as it was. Where the heap renewed
+-- its names on the way, all that is so by the new names.
 pub record HasStored (registers index : ℕ) (pair : Pair) (s u : LargeState) : Type 0 where
   pub there : index < length (unwrap_or (elements_at s pair.array) [])
   pub names : Option (List Name)
@@ -97,8 +97,9 @@ StoresReplaceElements =
 abbrev pub part_at : LargeState → ℕ → ℕ → Option Name
 part_at s base i = slice_index_or (unwrap_or (references_in s base) []) (i / PART) None
 
--- An element of a root was stored to, from state s to u: it is what the other register held, and its part has what it had, but for this reference; each
--- register that the host may name holds what it held, and each object but the part, and each body, is as it was. Where the heap renewed its names on the way, all that is so by the new names.
+-- An element of a root was stored to, from state s to u: it is what the other register held, and its part has what it had, but for this reference;
+-- each register that the host may name holds what it held, and each object but the part, and each body, is as it was. Where the heap renewed its
+-- names on the way, all that is so by the new names.
 pub record HasStoredInPart (registers index : ℕ) (pair : Pair) (s u : LargeState) : Type 0 where
   pub names : Option (List Name)
   pub element : element_at u pair.array index ≡ Some (as_named names (register_at s.small 1 pair.other))
@@ -117,8 +118,8 @@ StoresReachParts =
 
 -- ---- new arrays
 
--- An array was made, from state s to u: its elements are nil, each other register that the host may name holds what it held, and each object that there
--- was and each body is as it was. Where the heap renewed its names on the way, all that is so by the new names.
+-- An array was made, from state s to u: its elements are nil, each other register that the host may name holds what it held, and each object that
+-- there was and each body is as it was. Where the heap renewed its names on the way, all that is so by the new names.
 pub record HasMade (registers : ℕ) (wanted : NewArray) (s u : LargeState) : Type 0 where
   pub elements : elements_at u wanted.dest ≡ Some (replicate wanted.length None)
   pub names : Option (List Name)
@@ -144,8 +145,9 @@ abbrev pub with_renewals : List (List Name) → LargeState → LargeState
 with_renewals [] s = s
 with_renewals (ns ∷ earlier) s = renewed_large ns (with_renewals earlier s)
 
--- What is left, from state s to u, where elements of one array were replaced: each register that the host may name holds what it held, what it refers to
--- has the references and data words that it had, where that isn't the array, and each body is as it was. All that is so by the names of the renewals.
+-- What is left, from state s to u, where elements of one array were replaced: each register that the host may name holds what it held, what it
+-- refers to has the references and data words that it had, where that isn't the array, and each body is as it was. All that is so by the names of
+-- the renewals.
 pub record HasLeft (registers array : ℕ) (renewals : List (List Name)) (s u : LargeState) : Type 0 where
   pub held : (r : ℕ) → r < registers → register_at u.small 1 r ≡ as_renamed renewals (register_at s.small 1 r)
   pub references : (r : ℕ) → r < registers → register_at s.small 1 r ≢ register_at s.small 1 array → references_in u r ≡ option_map (map (as_renamed renewals)) (references_in s r)
@@ -167,9 +169,9 @@ FillsReplaceElements =
     (x y : HostHeap) (h : List LargeItem) (first count : ℕ) (pair : Pair) → IsHostOf x h → IsPair (registers_in x) pair → root_length (large_state h) pair.array ≡ None
     → FillsElements first count x y h pair code.Done → (k : List LargeItem) × IsHostOf y k × HasFilled (registers_in x) first count pair (large_state h) (large_state k)
 
--- So many elements of one whole array, from `first` on, were copied to another, or to itself, from `at` on, from state s to u: each is what that one had
--- before, also where the ranges overlap, and each other element is what it was. Where the heap renewed its names on the way, all that is so by the
--- new names.
+-- So many elements of one whole array, from `first` on, were copied to another, or to itself, from `at` on, from state s to u: each is what that
+-- one had before, also where the ranges overlap, and each other element is what it was. Where the heap renewed its names on the way, all that is so
+-- by the new names.
 pub record HasCopied (registers at first count : ℕ) (pair : Pair) (s u : LargeState) : Type 0 where
   pub renewals : List (List Name)
   pub there : at + count ≤ length (unwrap_or (elements_at s pair.array) [])
@@ -187,8 +189,18 @@ CopiesReplaceElements =
 
 -- ---- new roots
 
--- a call that makes an array of more than 1,023 elements, and tells success: its elements are nil
+-- A root was made, from state s to u: its elements are nil, each other register that the host may name holds what it held, what that refers to has the
+-- references and data words that it had, and each body is as it was. All that is so by the names of the renewals.
+pub record HasMadeRoot (registers : ℕ) (wanted : NewArray) (s u : LargeState) : Type 0 where
+  pub elements : elements_at u wanted.dest ≡ Some (replicate wanted.length None)
+  pub renewals : List (List Name)
+  pub held : (r : ℕ) → r < registers → r ≢ wanted.dest → register_at u.small 1 r ≡ as_renamed renewals (register_at s.small 1 r)
+  pub references : (r : ℕ) → r < registers → r ≢ wanted.dest → references_in u r ≡ option_map (map (as_renamed renewals)) (references_in s r)
+  pub words : (r : ℕ) → r < registers → r ≢ wanted.dest → words_in u r ≡ words_in s r
+  pub bodies : u.large ≡ (with_renewals renewals s).large
+
+-- a call that makes an array of more than 1,023 elements, and tells success, has made it
 abbrev pub NewRootsHaveNils : Type 0
 NewRootsHaveNils =
     (x y : HostHeap) (h : List LargeItem) (wanted : NewArray) → IsHostOf x h → IsNewArray (registers_in x) wanted → PART < wanted.length → MakesArray x y h wanted code.Done
-    → (k : List LargeItem) × IsHostOf y k × (elements_at (large_state k) wanted.dest ≡ Some (replicate wanted.length None))
+    → (k : List LargeItem) × IsHostOf y k × HasMadeRoot (registers_in x) wanted (large_state h) (large_state k)

@@ -3,3 +3,4 @@ pub mod Operations
 pub mod Sides
 pub mod Plans
 pub mod Elements
+pub mod Own

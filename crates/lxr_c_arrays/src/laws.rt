@@ -1,6 +1,7 @@
 //! What the elements of an array are after a call. The functions do nothing: the contract of each is a law of what the calls do.
 ghost use Rattle.lxr_c_arrays.specs.Elements.{LengthCountsElements, LoadsGiveElements, StoresReachParts, StoresReplaceElements};
 ghost use Rattle.lxr_c_arrays.specs.Elements.{CopiesReplaceElements, FillsReplaceElements, NewElementsAreNil, NewRootsHaveNils};
+ghost use Rattle.lxr_c_arrays.specs.Own.{ArraysKeepNil};
 
 /// An array is as long as it has elements.
 pub fn length_counts_elements()
@@ -43,4 +44,9 @@ pub fn copies_replace_elements()
 /// A call that makes an array of more than 1,023 elements, and tells success, has made so many, which are nil.
 pub fn new_roots_have_nils()
     ensures { NewRootsHaveNils }
+{}
+
+/// The library's own registers are nil after each call on arrays, where they were before it.
+pub fn arrays_keep_nil()
+    ensures { ArraysKeepNil }
 {}

@@ -6,9 +6,8 @@ ghost use Rattle.lxr_c_heap.specs.Hosting.{IsServing, all_registers_in};
 ghost use Rattle.lxr_c_arrays.specs.Operations.{load_of, move_of, new_of, nil_of, put_of, store_of};
 ghost use Rattle.lxr_c_arrays.specs.Running.{InTurn, SameRegisters};
 
-use lxr_c_base::Code;
+use lxr_c_base::{Code, code_of};
 use lxr_c_heap::HostHeap;
-use lxr_c_many::{Asked, perform};
 use lxr_graph::Op;
 use lxr_large_model::LargeOp;
 use lxr_layout::Shape;
@@ -23,7 +22,7 @@ pub(crate) fn make(heap: &mut HostHeap, dest: u8, shape: Shape) -> Code
     ensures same { SameRegisters heap.old heap.new }
     ensures serving { IsServing heap.new }
 {
-    perform(heap, Asked::Make(LargeOp::Small(Op::New { dest, shape }))).code
+    code_of(heap.make(LargeOp::Small(Op::New { dest, shape })))
 }
 
 /// Register `dest` gets a reference of what `base` holds.
@@ -35,11 +34,7 @@ pub(crate) fn load(heap: &mut HostHeap, dest: u8, base: u8, index: u16) -> Code
     ensures same { SameRegisters heap.old heap.new }
     ensures serving { IsServing heap.new }
 {
-    perform(
-        heap,
-        Asked::Reply(LargeOp::Small(Op::Load { dest, base, index })),
-    )
-    .code
+    code_of(heap.reply(LargeOp::Small(Op::Load { dest, base, index })))
 }
 
 /// A reference of what `base` holds becomes what `source` holds.
@@ -51,15 +46,11 @@ pub(crate) fn store(heap: &mut HostHeap, base: u8, index: u16, source: u8) -> Co
     ensures same { SameRegisters heap.old heap.new }
     ensures serving { IsServing heap.new }
 {
-    perform(
-        heap,
-        Asked::Store(LargeOp::Small(Op::Store {
-            base,
-            index,
-            source,
-        })),
-    )
-    .code
+    code_of(heap.store(LargeOp::Small(Op::Store {
+        base,
+        index,
+        source,
+    })))
 }
 
 /// A data word of what `base` holds becomes `value`.
@@ -71,11 +62,7 @@ pub(crate) fn put(heap: &mut HostHeap, base: u8, index: u16, value: u64) -> Code
     ensures same { SameRegisters heap.old heap.new }
     ensures serving { IsServing heap.new }
 {
-    perform(
-        heap,
-        Asked::Reply(LargeOp::Small(Op::Put { base, index, value })),
-    )
-    .code
+    code_of(heap.reply(LargeOp::Small(Op::Put { base, index, value })))
 }
 
 /// Register `dest` gets what `source` holds.
@@ -87,11 +74,7 @@ pub(crate) fn copy(heap: &mut HostHeap, dest: u8, source: u8) -> Code
     ensures same { SameRegisters heap.old heap.new }
     ensures serving { IsServing heap.new }
 {
-    perform(
-        heap,
-        Asked::Reply(LargeOp::Small(Op::Move { dest, source })),
-    )
-    .code
+    code_of(heap.reply(LargeOp::Small(Op::Move { dest, source })))
 }
 
 /// Register `dest` becomes nil.
@@ -103,5 +86,5 @@ pub(crate) fn nil(heap: &mut HostHeap, dest: u8)
     ensures same { SameRegisters heap.old heap.new }
     ensures serving { IsServing heap.new }
 {
-    perform(heap, Asked::Reply(LargeOp::Small(Op::Nil { dest })));
+    heap.reply(LargeOp::Small(Op::Nil { dest }));
 }

@@ -44,6 +44,7 @@ use Rattle.lxr_heap.specs.contracts.heap.Heap as Heap
 use Rattle.lxr_c_heap.specs.contracts.host.HostHeap as HostHeap
 use Rattle.lxr_c_heap.proofs.host.Seal.TheSendSync as seal
 use Rattle.lxr_c_heap.proofs.pacing.Pace.TheSendSync as pace
+use Rattle.lxr_c_heap.proofs.room.Room.TheSendSync as room
 
 -- ---- rows of memory, and the rights to free them
 
@@ -115,4 +116,4 @@ large_send : IsSend LargeHeap.the_row
 large_send = view_send in_heap.the_row _ _ _ _ (declared_send in_heap.the_type (heap_send, tt))
 
 pub host_send : IsSend HostHeap.the_row
-host_send = declared_send HostHeap.the_type (large_send, (search sendable, (pace.the_send, (search sendable depth 20, (search sendable, (search sendable, (seal.the_send, tt)))))))
+host_send = declared_send HostHeap.the_type (large_send, (search sendable, (pace.the_send, (room.the_send, (search sendable depth 20, (search sendable, (search sendable, (seal.the_send, tt))))))))

@@ -5,3 +5,4 @@ pub mod RoomLemmas
 pub mod RegisterLemmas
 pub mod CallLemmas
 pub mod CrossingLemmas
+pub mod TryingLemmas

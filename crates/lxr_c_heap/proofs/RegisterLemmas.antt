@@ -1,5 +1,5 @@
 -- A heap has as many registers as before, whatever is called: its terms stay over calls, pauses and renewals.
-use Rattle.std.proofs.Common.{◌≡◌, ℕ, ◌≤◌, ◌∙◌, sym, ap, arith, inl, inr, Bool, false, true, List, Some}
+use Rattle.std.proofs.Common.{◌≡◌, ℕ, ◌≤◌, ◌∙◌, sym, ap, arith, inl, inr, Bool, true, List, Some}
 use mathlib.Core.Logic.{∥∥₁_elim}
 use Rattle.std.specs.Coded.{le_prop}
 use Rattle.std.proofs.Math.Nat.{ℕ_set}
@@ -11,8 +11,10 @@ use Rattle.lxr_large_model.specs.History.{LargeItem}
 use Rattle.lxr_c_heap.specs.declared.host.Ends.{Ends}
 use Rattle.lxr_c_heap.specs.declared.host.HostHeap.{HostHeap}
 use Rattle.lxr_c_heap.specs.Hosting.{Acts, IsHostOf, Makes, Pauses, PausesAsked, PausesFor, PausesWhere, Renews, Replies, SettlesAt, Stores, all_registers_in, behind_pause, registers_in}
+use Rattle.lxr_c_base.specs.declared.codes.Code.{Code}
+use Rattle.lxr_c_heap.specs.Calling.{SetsGrow, SetsRoom}
 use Rattle.lxr_c_heap.specs.Keeping.{Kept, registers_kept}
-use Rattle.lxr_c_heap.proofs.RoomLemmas.{SomeHistory, paused_holds, settled_holds}
+use Rattle.lxr_c_heap.proofs.RoomLemmas.{SomeHistory}
 
 -- ---- what each history tells
 
@@ -59,7 +61,7 @@ module _ (number : HostHeap → ℕ) (replied : (x y : HostHeap) (h : List Large
   made_same : (x y : HostHeap) (h : List LargeItem) (o : LargeOp) (r : LargeReply) → Makes x y h o r → number y ≡ number x
   made_same x y h o r makes =
       acted_same makes.paused y makes.paused_history o r makes.acts
-      ∙ where_same _ false makes.settled makes.paused makes.settled_history makes.paused_history makes.pauses
+      ∙ where_same _ _ makes.settled makes.paused makes.settled_history makes.paused_history makes.pauses
       ∙ settled_same _ x makes.settled h makes.settled_history makes.settles
 
 -- those that the host may name
@@ -83,6 +85,14 @@ made_keeps = made_same registers_in replied_keeps paused_keeps renewed_keeps
 
 pub asked_keeps : (x y : HostHeap) (h : List LargeItem) (collect : Bool) → PausesAsked x y h collect → registers_in y ≡ registers_in x
 asked_keeps x y h collect asked = paused_keeps asked.settled y asked.history collect asked.pauses ∙ settled_keeps _ x asked.settled h asked.history asked.settles
+
+pub room_keeps : (blocks : ℕ) (x y : HostHeap) (answer : Code) → SetsRoom blocks x y answer → registers_in y ≡ registers_in x
+room_keeps blocks x y answer (inl (fits, done, set)) = ap registers_in set
+room_keeps blocks x y answer (inr (out, size, same)) = ap registers_in same
+
+pub grow_keeps : (grow : ℕ) (x y : HostHeap) (answer : Code) → SetsGrow grow x y answer → registers_in y ≡ registers_in x
+grow_keeps grow x y answer (inl (fits, done, set)) = ap registers_in set
+grow_keeps grow x y answer (inr (out, size, same)) = ap registers_in same
 
 -- and all that there are
 pub replied_all : (x y : HostHeap) (h : List LargeItem) (o : LargeOp) (r : LargeReply) → Replies x y h o r → all_registers_in y ≡ all_registers_in x

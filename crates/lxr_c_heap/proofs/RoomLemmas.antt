@@ -1,5 +1,5 @@
 -- Room for objects and pauses that are to come: what a pause, a renewal and an operation leave of it, and that no pause is needed behind one.
-use Rattle.std.proofs.Common.{◌≡◌, ℕ, ◌+◌, ◌*◌, ◌<◌, ◌≤◌, ◌∙◌, refl, sym, ap, subst, arith, true≢false, Bool, true, false, ◌^◌, List, [], ◌∷◌, inl, inr, Option}
+use Rattle.std.proofs.Common.{◌≡◌, ℕ, ◌+◌, ◌*◌, ◌%◌, ◌<◌, ◌≤◌, ◌∙◌, refl, sym, ap, subst, arith, true≢false, Bool, true, false, ◌^◌, List, [], ◌∷◌, inl, inr, Option}
 use mathlib.Core.Bool.{Bool-set}
 use Rattle.std.specs.Coded.{le_prop}
 use Rattle.std.proofs.lemmas.Bool.{cases_lt}
@@ -32,10 +32,12 @@ use Rattle.lxr_c_heap.specs.declared.host.Seal.{Seal}
 use Rattle.lxr_c_heap.specs.declared.settings.Settings.{Settings}
 use Rattle.lxr_c_heap.specs.Hosting.{Acts, HasRoom, IsAtEnd, IsHostOf, IsOpened, IsServing, IsWithin, Needs, Pauses, PausesWhere, Replies, SettlesAt, all_registers_in, behind_pause, registers_in}
 use Rattle.lxr_c_heap.specs.declared.pacing.Pace.{Pace}
-use Rattle.lxr_c_heap.specs.Pacing.{bytes_by, limit_of, pace_of}
+use Rattle.lxr_c_heap.specs.declared.room.Room.{Room}
+use Rattle.lxr_c_heap.specs.Pacing.{bytes_by, due_after, pace_of}
+use Rattle.lxr_c_heap.specs.Rooms.{free_in, room_after}
 use Rattle.lxr_layout.specs.declared.TheConstants.{LEAST_REGISTERS}
 use Rattle.lxr_c_heap.specs.declared.settings.TheConstants.{OWN_REGISTERS}
-use Rattle.lxr_c_heap.specs.Settings.{AreSettings, registers_of, with_own}
+use Rattle.lxr_c_heap.specs.Settings.{AreSettings, registers_of, room_of, with_own}
 use Rattle.lxr_c_base.specs.Requests.{IsQuiet}
 use Rattle.lxr_c_heap.proofs.OperationLemmas.{quiet_makes, quiet_may}
 use Rattle.lxr_c_heap.proofs.PacingLemmas.{bytes_bound, bytes_few, paused_host, quiet_bytes, renewed_host, replied_host, still_named, written_bytes}
@@ -110,14 +112,36 @@ weaker_room objects pauses x room one some = record {
 pub with_less : (objects pauses : ℕ) (x : HostHeap) → HasRoom objects (pauses + 1) x → HasRoom objects pauses x
 with_less objects pauses x room = record { holds = room.holds; made = room.made; paused = let few = room.paused in omega (arith, few); bytes = room.bytes }
 
--- a heap that was opened has its pace from the first object on
-pub opened_with : (heap : Heap) (wanted : Settings) (named : ℕ) (pace : Pace) (limit : Option ℕ) (seal : Seal) → IsOpenedHeap heap wanted.blocks wanted.body_blocks (with_own named) → named ≡ registers_of wanted → pace ≡ pace_of wanted.pace
-    → limit ≡ limit_of pace heap → IsOpened (record { heap = heap; named = named; pace = pace; limit = limit; bytes = 0; pauses = 0; seal = seal }) wanted
-opened_with heap wanted named pace limit seal opened same is within = record {
+-- a pause leaves the room and the limit of the heap that it left
+pub paused_rest : (x : HostHeap) (heap : Heap) (collect : Bool) (free : ℕ) (room : Room) (limit : Option ℕ) → free ≡ free_in heap → room ≡ room_after collect x.room free → limit ≡ due_after x.pace room free
+    → record x { heap = heap; room = room; limit = limit; bytes = 0; pauses = (x.pauses + 1) % 2 ^ 64 }
+    ≡ record x { heap = heap; room = room_after collect x.room (free_in heap); limit = due_after x.pace (room_after collect x.room (free_in heap)) (free_in heap); bytes = 0; pauses = (x.pauses + 1) % 2 ^ 64 }
+paused_rest x heap collect free room limit counted after due =
+    let same = after ∙ ap (room_after collect x.room) counted in
+    ap (λ (r : Room). record x { heap = heap; room = r; limit = limit; bytes = 0; pauses = (x.pauses + 1) % 2 ^ 64 }) same
+    ∙ ap (λ (l : Option ℕ). record x { heap = heap; room = room_after collect x.room (free_in heap); limit = l; bytes = 0; pauses = (x.pauses + 1) % 2 ^ 64 })
+    (due ∙ ap (λ (r : Room). due_after x.pace r free) same ∙ ap (due_after x.pace (room_after collect x.room (free_in heap))) counted)
+
+-- a heap that was opened has its pace and its room from the first object on
+pub opened_with : (heap : Heap) (wanted : Settings) (named : ℕ) (pace : Pace) (room : Room) (limit : Option ℕ) (seal : Seal) → IsOpenedHeap heap wanted.blocks wanted.body_blocks (with_own named)
+    → named ≡ registers_of wanted → pace ≡ pace_of wanted.pace → room ≡ room_of wanted → limit ≡ due_after pace room (free_in heap)
+    → IsOpened (record { heap = heap; named = named; pace = pace; room = room; limit = limit; bytes = 0; pauses = 0; seal = seal }) wanted
+opened_with heap wanted named pace room limit seal opened same is has within = record {
   heap = subst (λ n. IsOpenedHeap heap wanted.blocks wanted.body_blocks (with_own n)) same opened;
-  rest = ap (λ n. record { heap = heap; named = n; pace = pace; limit = limit; bytes = 0; pauses = 0; seal = seal }) same
-      ∙ ap (λ (p : Pace). record { heap = heap; named = registers_of wanted; pace = p; limit = limit; bytes = 0; pauses = 0; seal = seal }) is
-      ∙ ap (λ (l : Option ℕ). record { heap = heap; named = registers_of wanted; pace = pace_of wanted.pace; limit = l; bytes = 0; pauses = 0; seal = seal }) (within ∙ ap (λ p. limit_of p heap) is);
+  rest = ap (λ n. record { heap = heap; named = n; pace = pace; room = room; limit = limit; bytes = 0; pauses = 0; seal = seal }) same
+      ∙ ap (λ (p : Pace). record { heap = heap; named = registers_of wanted; pace = p; room = room; limit = limit; bytes = 0; pauses = 0; seal = seal }) is
+      ∙ ap (λ (r : Room). record { heap = heap; named = registers_of wanted; pace = pace_of wanted.pace; room = r; limit = limit; bytes = 0; pauses = 0; seal = seal }) has
+      ∙ ap (λ (l : Option ℕ). record { heap = heap; named = registers_of wanted; pace = pace_of wanted.pace; room = room_of wanted; limit = l; bytes = 0; pauses = 0; seal = seal })
+      (within ∙ ap (λ p. due_after p room (free_in heap)) is ∙ ap (λ r. due_after (pace_of wanted.pace) r (free_in heap)) has);
+}
+
+-- what is set of pace and room changes nothing of what it serves
+pub set_serves : (x : HostHeap) (pace : Pace) (room : Room) (limit : Option ℕ) → IsServing x → IsServing (record x { pace = pace; room = room; limit = limit })
+set_serves x pace room limit serving = record {
+  holds = ∥∥₁_elim serving.holds ∥∥₁_prop (λ of. ∣ (of.0, record { heap = of.1.heap; bytes = of.1.bytes; named = of.1.named }) ∣₁);
+  made = serving.made;
+  paused = serving.paused;
+  bytes = serving.bytes;
 }
 
 -- there are as many registers as the host names

@@ -1,5 +1,5 @@
 -- What each call of a program does at its handle: before and after it is kept a heap, or none.
-use Rattle.std.specs.Prelude.{◌≡◌, ℕ, ◌⊎◌, Bool, None, Some, List, Ok, Err}
+use Rattle.std.specs.Prelude.{◌≡◌, ℕ, ◌≤◌, ◌⊎◌, Bool, None, Some, List, Ok, Err}
 use Rattle.lxr_large_model.specs.declared.LargeOp.{LargeOp}
 use Rattle.lxr_large_model.specs.declared.LargeReply.{LargeReply}
 use Rattle.lxr_large_model.specs.History.{LargeItem}
@@ -7,11 +7,13 @@ use Rattle.lxr_c_base.specs.declared.codes.Code.{Code}
 use Rattle.lxr_c_base.specs.declared.codes.Code.TheVariants as code
 use Rattle.lxr_c_heap.specs.declared.host.Ends.{Ends}
 use Rattle.lxr_c_heap.specs.declared.host.HostHeap.{HostHeap}
+use Rattle.lxr_c_heap.specs.declared.room.TheConstants.{MOST_GROW}
 use Rattle.lxr_c_heap.specs.declared.settings.Settings.{Settings}
 use Rattle.lxr_c_base.specs.Codes.{Answer, answered}
 use Rattle.lxr_c_heap.specs.Hosting.{IsHostOf, IsOpened, PausesAsked, SettlesAt}
 use Rattle.lxr_c_heap.specs.Keeping.{Kept}
-use Rattle.lxr_c_heap.specs.Pacing.{limit_of, pace_of}
+use Rattle.lxr_c_heap.specs.Pacing.{due_after, pace_of}
+use Rattle.lxr_c_heap.specs.Rooms.{free_in, with_blocks}
 use Rattle.lxr_c_heap.specs.Settings.{AreSettings}
 use Rattle.lxr_c_base.specs.Requests.{Request}
 
@@ -53,7 +55,23 @@ AsksPause (Some x) after collect answer = (y : HostHeap) × (answer ≡ code.Don
 -- so many bytes of new objects are to be made between two pauses at most, by the pace of this number
 abbrev pub SetsPace : Kept → Kept → ℕ → Code → Type 0
 SetsPace None after bytes answer = (answer ≡ code.NoHeap) × (after ≡ None)
-SetsPace (Some x) after bytes answer = (answer ≡ code.Done) × (after ≡ Some (record x { pace = pace_of bytes; limit = limit_of (pace_of bytes) x.heap }))
+SetsPace (Some x) after bytes answer = (answer ≡ code.Done) × (after ≡ Some (record x { pace = pace_of bytes; limit = due_after (pace_of bytes) x.room (free_in x.heap) }))
+
+-- Room was to be set for so many blocks, or for all by 0: there are fewer than that in all, or it has it from now on, and all else is as it was.
+abbrev pub SetsRoom : ℕ → HostHeap → HostHeap → Code → Type 0
+SetsRoom blocks x y answer =
+    ((blocks ≤ x.room.reserved) × (answer ≡ code.Done) × (y ≡ record x { room = with_blocks blocks x.room; limit = due_after x.pace (with_blocks blocks x.room) (free_in x.heap) }))
+    ⊎ (¬ (blocks ≤ x.room.reserved) × (answer ≡ code.Size) × (y ≡ x))
+
+-- The growth of the room was to be set: it is out of its range, or holds from the next collecting pause on, and all else is as it was.
+abbrev pub SetsGrow : ℕ → HostHeap → HostHeap → Code → Type 0
+SetsGrow grow x y answer =
+    ((grow ≤ MOST_GROW) × (answer ≡ code.Done) × (y ≡ record x { room = record x.room { grow = grow } })) ⊎ (¬ (grow ≤ MOST_GROW) × (answer ≡ code.Size) × (y ≡ x))
+
+-- something of a heap was to be set
+abbrev pub Sets : (HostHeap → HostHeap → Code → Type 0) → Kept → Kept → Code → Type 0
+Sets does None after answer = (answer ≡ code.NoHeap) × (after ≡ None)
+Sets does (Some x) after answer = (y : HostHeap) × (after ≡ Some y) × does x y answer
 
 -- all names were renewed where so many objects or pauses were made
 abbrev pub SettlesHeap : Ends → Kept → Kept → Type 0

@@ -12,11 +12,13 @@ use Rattle.lxr_c_heap.specs.declared.host.Ends.{Ends}
 use Rattle.lxr_c_heap.specs.declared.host.TheConstants.{ENDS}
 use Rattle.lxr_c_heap.specs.declared.host.HostHeap.{HostHeap}
 use Rattle.lxr_c_heap.specs.declared.own.OwnRegisters.{OwnRegisters}
+use Rattle.lxr_c_heap.specs.declared.room.Room.{Room}
 use Rattle.lxr_c_heap.specs.declared.settings.Settings.{Settings}
 use Rattle.lxr_layout.specs.declared.TheConstants.{LEAST_REGISTERS}
 use Rattle.lxr_c_heap.specs.declared.settings.TheConstants.{OWN_REGISTERS}
-use Rattle.lxr_c_heap.specs.Pacing.{IsReached, bytes_by, bytes_made, limit_of, pace_of}
-use Rattle.lxr_c_heap.specs.Settings.{registers_of, with_own}
+use Rattle.lxr_c_heap.specs.Pacing.{IsReached, bytes_by, bytes_made, due_after, pace_of}
+use Rattle.lxr_c_heap.specs.Rooms.{free_in, is_exceeded, room_after}
+use Rattle.lxr_c_heap.specs.Settings.{registers_of, room_of, with_own}
 
 -- ---- a heap that serves
 
@@ -51,17 +53,22 @@ pub record HasRoom (objects pauses : ℕ) (x : HostHeap) : Type 0 where
 abbrev pub IsServing : HostHeap → Type 0
 IsServing = HasRoom 1 1
 
--- a heap that was opened with settings: of their blocks and registers, and with their pace from the first object on
+-- a heap that was opened with settings: of their blocks and registers, and with their pace and room from the first object on
 pub record IsOpened (x : HostHeap) (s : Settings) : Type 0 where
   pub heap : IsOpenedHeap x.heap s.blocks s.body_blocks (with_own (registers_of s))
-  pub rest : x ≡ record { heap = x.heap; named = registers_of s; pace = pace_of s.pace; limit = limit_of (pace_of s.pace) x.heap; bytes = 0; pauses = 0; seal = x.seal }
+  pub rest : x ≡ record { heap = x.heap; named = registers_of s; pace = pace_of s.pace; room = room_of s; limit = due_after (pace_of s.pace) (room_of s) (free_in x.heap); bytes = 0; pauses = 0; seal = x.seal }
 
 -- ---- pauses
 
--- A pause was made, of the kind that was asked for, and is counted. No bytes were made since, and the limit is that of the heap that it left.
+-- the room behind a pause that left y
+abbrev pub room_left : HostHeap → Bool → HostHeap → Room
+room_left x collect y = room_after collect x.room (free_in y.heap)
+
+-- A pause was made, of the kind that was asked for, and is counted. No bytes were made since, and the room and the limit are those of the heap that
+-- it left.
 pub record Pauses (x y : HostHeap) (h : List LargeItem) (collect : Bool) : Type 0 where
   pub heap : PausesHeap x.heap y.heap h collect
-  pub rest : y ≡ record x { heap = y.heap; limit = limit_of x.pace y.heap; bytes = 0; pauses = (x.pauses + 1) % 2 ^ 64 }
+  pub rest : y ≡ record x { heap = y.heap; room = room_left x collect y; limit = due_after x.pace (room_left x collect y) (free_in y.heap); bytes = 0; pauses = (x.pauses + 1) % 2 ^ 64 }
 
 -- the history behind the pause that a heap has just made
 abbrev pub behind_pause : HostHeap → List LargeItem → List LargeItem
@@ -95,9 +102,13 @@ SettlesAt ends x h y k = (IsAtEnd ends x × (m : HostHeap) × Pauses x m h true 
 abbrev pub Settles : HostHeap → List LargeItem → HostHeap → List LargeItem → Type 0
 Settles = SettlesAt ENDS
 
--- a pause is due before an object is made: those that were made since the last one have as many bytes as the pace allows
+-- a pause is due before an object is made: those that were made since the last one have as many bytes as the pace allows, and the room
 abbrev pub IsDue : HostHeap → List LargeItem → Type 0
 IsDue x h = IsReached x.limit (bytes_made h)
+
+-- more blocks are in use than it has room for, so that the pause that is due collects
+abbrev pub exceeds_room : HostHeap → Bool
+exceeds_room x = is_exceeded x.room (free_in x.heap)
 
 -- An operation needs a pause that collects where it finds no place and no such pause stands before it, and a plain one where it has to record what
 -- it overwrites and the log is full.
@@ -130,14 +141,15 @@ pub record Stores (x y : HostHeap) (h : List LargeItem) (o : LargeOp) (r : Large
   pub settles : Settles x h settled history
   pub acts : Acts settled y history o r
 
--- An object was made, or refused as full: the heap settles, a pause that is due is made, and the operation is done.
+-- An object was made, or refused as full: the heap settles, a pause that is due is made, which collects where the room is exceeded, and the operation
+-- is done.
 pub record Makes (x y : HostHeap) (h : List LargeItem) (o : LargeOp) (r : LargeReply) : Type 0 where
   pub settled : HostHeap
   pub settled_history : List LargeItem
   pub settles : Settles x h settled settled_history
   pub paused : HostHeap
   pub paused_history : List LargeItem
-  pub pauses : PausesWhere (IsDue settled settled_history) false settled settled_history paused paused_history
+  pub pauses : PausesWhere (IsDue settled settled_history) (exceeds_room settled) settled settled_history paused paused_history
   pub acts : Acts paused y paused_history o r
 
 -- A pause was made that was asked for.

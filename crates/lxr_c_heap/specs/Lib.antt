@@ -1,3 +1,4 @@
+pub mod Rooms
 pub mod Settings
 pub mod Pacing
 pub mod Hosting
@@ -6,3 +7,4 @@ pub mod Lending
 pub mod Calling
 pub mod Looking
 pub mod Crossing
+pub mod Trying

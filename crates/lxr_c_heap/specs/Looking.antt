@@ -103,10 +103,11 @@ counted_by n =
     else (if n == 5 then Ok counted.Live
     else (if n == 6 then Ok counted.FreeBlocks
     else (if n == 7 then Ok counted.FreeBodyBytes
-    else Err code.What)))))))
+    else (if n == 13 then Ok counted.Room
+    else Err code.What))))))))
 
 -- What is counted: pauses since the heap was opened; names of each list of the last report; objects that aren't reclaimed, without the world; Free
--- blocks; and the bytes of the blocks for bodies that no body has.
+-- blocks; the bytes of the blocks for bodies that no body has; and the blocks of the room, as it was set last.
 abbrev pub Counts : HostHeap → List LargeItem → Counted → ℕ → Type 0
 Counts x h counted.Pauses n = n ≡ x.pauses
 Counts x h counted.Promoted n = n ≡ length x.heap.space.report.promoted.items
@@ -116,6 +117,7 @@ Counts x h counted.Swept n = n ≡ length x.heap.space.report.swept.items
 Counts x h counted.Live n = n ≡ length (kept_names (large_moment h))
 Counts x h counted.FreeBlocks n = n ≡ length (listed_frees (tables_of x.heap.space) x.heap.space.limits.blocks)
 Counts x h counted.FreeBodyBytes n = n ≡ 32768 * (x.heap.bodies.blocks - blocks_held x.heap.bodies.bodies)
+Counts x h counted.Room n = n ≡ x.room.blocks
 
 -- ---- what the program gets
 

@@ -1,7 +1,7 @@
 //! What the calls of a program do at its handle.
 ghost use Rattle.std.specs.Prelude.{◌≡◌, ◌↔◌, None, IsTrue, IfOk, IfSome};
 ghost use Rattle.lxr_c_base.specs.Requests.{IsMaking, IsQuiet, IsStoring};
-ghost use Rattle.lxr_c_heap.specs.Calling.{Asks, AsksPause, Closes, Opens, SetsPace};
+ghost use Rattle.lxr_c_heap.specs.Calling.{Asks, AsksPause, Closes, Opens, Sets, SetsGrow, SetsPace, SetsRoom};
 ghost use Rattle.lxr_c_heap.specs.Hosting.{IsOpened, IsServing, Makes, Replies, Stores};
 ghost use Rattle.lxr_c_heap.specs.Keeping.{registers_kept};
 ghost use Rattle.lxr_c_heap.specs.Settings.{AreSettings};
@@ -126,5 +126,25 @@ impl Handle {
         }
         self.block.lend().set_pace(Pace::of(bytes));
         Code::Done
+    }
+
+    /// Sets how many blocks are in use before a pause that is due collects.
+    pub fn set_room(&mut self, blocks: u32) -> Code
+        ensures { Sets (SetsRoom blocks) self.old.block.value self.new.block.value result }
+    {
+        if !self.has_heap() {
+            return Code::NoHeap;
+        }
+        self.block.lend().set_room(blocks)
+    }
+
+    /// Sets how many hundredths more than what lives each collecting pause leaves room for.
+    pub fn set_grow(&mut self, grow: u32) -> Code
+        ensures { Sets (SetsGrow grow) self.old.block.value self.new.block.value result }
+    {
+        if !self.has_heap() {
+            return Code::NoHeap;
+        }
+        self.block.lend().set_grow(grow)
     }
 }

@@ -27,6 +27,8 @@ pub enum Counted {
     FreeBlocks,
     /// Bytes of free blocks for bodies.
     FreeBodyBytes,
+    /// Blocks in use until it collects, as they were set last.
+    Room,
 }
 
 /// What is counted by a number.
@@ -42,6 +44,7 @@ pub(crate) fn counted_by(number: u32) -> Result<Counted, Code>
         5 => Ok(Counted::Live),
         6 => Ok(Counted::FreeBlocks),
         7 => Ok(Counted::FreeBodyBytes),
+        13 => Ok(Counted::Room),
         _ => Err(Code::What),
     }
 }
@@ -61,6 +64,7 @@ impl HostHeap {
             Counted::Live => u64::from(self.heap.live()),
             Counted::FreeBlocks => u64::from(self.heap.free_blocks()),
             Counted::FreeBodyBytes => BLOCK_BYTES * u64::from(self.heap.free_body_blocks()),
+            Counted::Room => u64::from(self.room.blocks),
         }
     }
 }

@@ -3,13 +3,17 @@ ghost use Rattle.std.specs.Prelude.{◌≡◌, ◌+◌, ◌-◌, ◌*◌, ◌^�
 ghost use Rattle.lxr_large_model.specs.History.{LargeItem};
 ghost use Rattle.lxr_heap.specs.Holding.{IsHeapOf};
 ghost use Rattle.lxr_heap.specs.Acting.{IsCallable, MayBeCalled, WantsNoPause};
-ghost use Rattle.lxr_c_heap.specs.Hosting.{Acts, HasRoom, IsAtEnd, IsDue, IsHostOf, IsOpened, IsServing, IsWithin, Makes, Pauses, PausesAsked, PausesWhere, Replies, SettlesAt, Stores, all_registers_in};
-ghost use Rattle.lxr_c_heap.specs.Pacing.{bytes_by, limit_of};
+ghost use Rattle.lxr_c_heap.specs.Hosting.{Acts, HasRoom, IsAtEnd, IsDue, IsHostOf, IsOpened, IsServing, IsWithin, Makes, Pauses, PausesAsked, PausesWhere, Replies, SettlesAt, Stores, all_registers_in, exceeds_room as is_exceeding};
+ghost use Rattle.lxr_c_heap.specs.Calling.{SetsGrow, SetsRoom};
+ghost use Rattle.lxr_c_heap.specs.Pacing.{bytes_by, due_after as is_due_after};
+ghost use Rattle.lxr_c_heap.specs.Rooms.{free_in};
 ghost use Rattle.lxr_c_heap.specs.Settings.{AreSettings};
 ghost use Rattle.lxr_c_base.specs.Requests.{IsMaking, IsQuiet, IsStoring};
 
-use crate::pacing::{Pace, bytes_of, is_reached};
+use crate::pacing::{Pace, bytes_of, due_after, is_reached};
+use crate::room::{MOST_GROW, Room};
 use crate::settings::{Settings, with_own};
+use lxr_c_base::Code;
 use lxr_heap::LargeHeap;
 use lxr_large_model::{Acted, LargeOp, LargeReply};
 use std::alloc::{AllocError, Global};
@@ -35,8 +39,10 @@ pub struct HostHeap {
     pub heap: LargeHeap,
     /// How many registers the host may name, the first ones. Those behind them are the library's own.
     pub named: u16,
-    /// When a plain pause is due before an object is made.
+    /// When a pause is due before an object is made.
     pub pace: Pace,
+    /// How many blocks are in use before the one that is due collects.
+    pub room: Room,
     /// The bytes of new objects after which the next one is due.
     pub limit: Option<u64>,
     /// The bytes of the objects that were made since the last pause.
@@ -61,11 +67,13 @@ impl HostHeap {
             with_own(named) as u16,
         )?;
         let pace = Pace::of(wanted.pace);
+        let room = Room::of(wanted);
         Ok(HostHeap {
-            limit: pace.limit(&heap),
+            limit: due_after(pace, room, heap.free_blocks()),
             heap,
             named: named as u16,
             pace,
+            room,
             bytes: 0,
             pauses: 0,
             seal: Seal,
@@ -78,6 +86,7 @@ impl HostHeap {
             heap,
             named: _,
             pace: _,
+            room: _,
             limit: _,
             bytes: _,
             pauses: _,
@@ -93,7 +102,9 @@ impl HostHeap {
         ensures { (h : List LargeItem) → IsHeapOf self.old.heap h → Pauses self.old self.new h collect }
     {
         self.heap.pause(collect);
-        self.limit = self.pace.limit(&self.heap);
+        let free = self.heap.free_blocks();
+        self.room = self.room.after(collect, free);
+        self.limit = due_after(self.pace, self.room, free);
         self.bytes = 0;
         self.pauses = self.pauses.wrapping_add(1);
     }
@@ -129,17 +140,35 @@ impl HostHeap {
         is_reached(self.limit, self.bytes)
     }
 
-    /// Makes a plain pause where one is due before an object is made.
+    /// Whether more blocks are in use than it has room for.
+    fn exceeds_room(&self) -> bool
+        ensures { result ≡ is_exceeding self.now }
+    {
+        self.room.is_exceeded(self.heap.free_blocks())
+    }
+
+    /// Makes the pause that is due: one that collects where the room is exceeded.
+    #[cold]
+    #[inline(never)]
+    fn pause_due(&mut self)
+        requires number { self.old.heap.space.pauses + 1 < 2 ^ 32 }
+        ensures { (h : List LargeItem) → IsHeapOf self.old.heap h → Pauses self.old self.new h (is_exceeding self.old) }
+    {
+        let collect = self.exceeds_room();
+        self.pause(collect);
+    }
+
+    /// Makes a pause where one is due before an object is made.
     #[inline(always)]
     fn pause_if_due(&mut self)
         requires room { HasRoom 2 3 self.old }
-        ensures pauses { (h : List LargeItem) → IsHostOf self.old h → (k : List LargeItem) × PausesWhere (IsDue self.old h) false self.old h self.new k }
+        ensures pauses { (h : List LargeItem) → IsHostOf self.old h → (k : List LargeItem) × PausesWhere (IsDue self.old h) (is_exceeding self.old) self.old h self.new k }
         ensures room { HasRoom 2 2 self.new }
     {
         if !self.is_due() {
             return;
         }
-        self.pause(false);
+        self.pause_due();
     }
 
     /// Counts the bytes of the object that an operation made, if it made one.
@@ -234,14 +263,41 @@ impl HostHeap {
         self.act(op)
     }
 
-    /// Sets when plain pauses are due, from now on.
+    /// Sets when pauses are due, from now on.
     pub(crate) fn set_pace(&mut self, pace: Pace)
         requires serving { IsServing self.old }
-        ensures set { self.new ≡ record self.old { pace = pace; limit = limit_of pace self.old.heap } }
+        ensures set { self.new ≡ record self.old { pace = pace; limit = is_due_after pace self.old.room (free_in self.old.heap) } }
         ensures serving { IsServing self.new }
     {
         self.pace = pace;
-        self.limit = pace.limit(&self.heap);
+        self.limit = due_after(pace, self.room, self.heap.free_blocks());
+    }
+
+    /// Sets how many blocks are in use before a pause that is due collects, from now on; 0: all.
+    pub(crate) fn set_room(&mut self, blocks: u32) -> Code
+        requires serving { IsServing self.old }
+        ensures set { SetsRoom blocks self.old self.new result }
+        ensures serving { IsServing self.new }
+    {
+        if blocks > self.room.reserved {
+            return Code::Size;
+        }
+        self.room = self.room.with_blocks(blocks);
+        self.limit = due_after(self.pace, self.room, self.heap.free_blocks());
+        Code::Done
+    }
+
+    /// Sets how many hundredths more than what lives each collecting pause leaves room for, from the next one on; 0: the room stays.
+    pub(crate) fn set_grow(&mut self, grow: u32) -> Code
+        requires serving { IsServing self.old }
+        ensures set { SetsGrow grow self.old self.new result }
+        ensures serving { IsServing self.new }
+    {
+        if grow > MOST_GROW {
+            return Code::Size;
+        }
+        self.room.grow = grow;
+        Code::Done
     }
 
     /// Makes a pause that was asked for.

@@ -12,7 +12,9 @@ mod host;
 mod looks;
 mod own;
 mod pacing;
+mod room;
 mod settings;
+mod trying;
 
 pub use crossing::handles_cross;
 pub use handle::Handle;

@@ -1,10 +1,10 @@
-//! When plain pauses come by themselves: once so many bytes of new objects were made since the last pause.
+//! When pauses come by themselves: once so many bytes of new objects were made since the last pause.
 ghost use Rattle.std.specs.Prelude.{◌≡◌, ◌↔◌, IsTrue};
 ghost use Rattle.lxr_heap.specs.Acting.{IsCallable};
-ghost use Rattle.lxr_c_heap.specs.Pacing.{IsReached, bytes_by, free_bytes as is_free_bytes, limit_of, pace_of};
+ghost use Rattle.lxr_c_heap.specs.Pacing.{IsReached, bytes_by, due_after as is_due_after, lesser as is_lesser, limit_of, pace_of};
 
+use crate::room::Room;
 use lxr_graph::{Op, Reply};
-use lxr_heap::LargeHeap;
 use lxr_large_model::{LargeOp, LargeReply};
 use lxr_layout::{Shape, words_of};
 
@@ -48,23 +48,38 @@ impl Pace {
         Pace::Bytes(bytes)
     }
 
-    /// The bytes of new objects after which the next pause is due, of a heap that was just left by one.
-    pub(crate) fn limit(self, heap: &LargeHeap) -> Option<u64>
-        ensures { result ≡ limit_of self heap.now }
+    /// The bytes of new objects after which the next pause is due by it, where the last one left so many blocks without objects.
+    fn limit(self, free: u32) -> Option<u64>
+        ensures { result ≡ limit_of self free }
     {
         match self {
             Pace::Never => None,
             Pace::Bytes(bytes) => Some(bytes),
-            Pace::Room => Some((free_bytes(heap) / 2).min(MOST_PACE).max(LEAST_PACE)),
+            Pace::Room => Some(
+                (BLOCK_BYTES * u64::from(free) / 2)
+                    .min(MOST_PACE)
+                    .max(LEAST_PACE),
+            ),
         }
     }
 }
 
-/// The bytes of the blocks without objects.
-fn free_bytes(heap: &LargeHeap) -> u64
-    ensures { result ≡ is_free_bytes heap.now }
+/// The lesser of two limits, where there are both.
+fn lesser(left: Option<u64>, right: Option<u64>) -> Option<u64>
+    ensures { result ≡ is_lesser left right }
 {
-    BLOCK_BYTES * u64::from(heap.free_blocks())
+    match (left, right) {
+        (None, _) => right,
+        (_, None) => left,
+        (Some(left), Some(right)) => Some(left.min(right)),
+    }
+}
+
+/// The bytes of new objects after which the next pause is due, by the pace or by the room, where the last one left so many free blocks.
+pub(crate) fn due_after(pace: Pace, room: Room, free: u32) -> Option<u64>
+    ensures { result ≡ is_due_after pace room free }
+{
+    lesser(pace.limit(free), room.limit(free))
 }
 
 /// Whether so many bytes of new objects make a pause due.

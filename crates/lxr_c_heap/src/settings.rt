@@ -1,13 +1,17 @@
 //! What a program in C says of a heap for one thread.
 ghost use Rattle.std.specs.Prelude.{◌≡◌, ◌↔◌, ◌≤◌, IsTrue};
 ghost use Rattle.lxr_layout.specs.declared.TheConstants.{REGISTERS as MOST_REGISTERS};
-ghost use Rattle.lxr_c_heap.specs.Settings.{AreSettings, IsBlockCount, IsKnownSize, IsRegisterCount, registers_of, with_own as is_with_own};
+ghost use Rattle.lxr_c_heap.specs.Settings.{AreSettings, IsBlockCount, IsKnownSize, IsRegisterCount, grow_said as is_grow_said, registers_of, room_said as is_room_said, with_own as is_with_own};
 
+use crate::room::MOST_GROW;
 use lxr_layout::{LEAST_REGISTERS, MOST_BLOCKS, REGISTERS};
 
-/// The bytes of the settings that are known: of later versions this is the least size but for that of version 0.2, and what a shorter one
+/// The bytes of the settings that are known: of later versions this is the least size but for those of before, and what a shorter one
 /// hasn't is as it was before.
-pub const SETTINGS_BYTES: u64 = 32;
+pub const SETTINGS_BYTES: u64 = 40;
+
+/// The bytes of the settings that end before the room.
+pub const SECOND_SETTINGS_BYTES: u64 = 32;
 
 /// The bytes of the settings of version 0.2, which don't say how many registers a heap has.
 pub const FIRST_SETTINGS_BYTES: u64 = 24;
@@ -16,7 +20,7 @@ pub const FIRST_SETTINGS_BYTES: u64 = 24;
 pub const OWN_REGISTERS: u32 = 2;
 
 /// The settings of a heap, as `lxr_settings` has them: how many bytes they are, how many blocks the heap has, and for bodies, after how
-/// many bytes of new objects a plain pause is due, and how many registers it has. What stands after so many bytes isn't read.
+/// many bytes of new objects a plain pause is due, how many registers it has, and its room. What stands after so many bytes isn't read.
 #[repr(C)]
 #[derive(Drop)]
 pub struct Settings {
@@ -28,6 +32,10 @@ pub struct Settings {
     pub registers: u32,
     /// Nothing is said by these bytes.
     pub unused: u32,
+    /// How many blocks are in use before it collects, and 0 for all.
+    pub room: u32,
+    /// How many hundredths more than what lives each collecting pause leaves room for: at most 10,000, and 0 for never.
+    pub grow: u32,
 }
 
 /// Whether a heap may have so many blocks.
@@ -59,7 +67,9 @@ impl Settings {
     fn has_known_size(&self) -> bool
         ensures { IsTrue result ↔ IsKnownSize self.now.size }
     {
-        self.size == SETTINGS_BYTES || self.size == FIRST_SETTINGS_BYTES
+        self.size == SETTINGS_BYTES
+            || self.size == SECOND_SETTINGS_BYTES
+            || self.size == FIRST_SETTINGS_BYTES
     }
 
     /// How many registers the host is to name: the fewest where settings of version 0.2 don't say it, or where they say 0.
@@ -75,6 +85,33 @@ impl Settings {
         self.registers
     }
 
+    /// The blocks of the room that they say: 0, which is all, where shorter ones don't.
+    pub(crate) fn room_said(&self) -> u32
+        ensures { result ≡ is_room_said self.now }
+    {
+        if self.size == SETTINGS_BYTES {
+            return self.room;
+        }
+        0
+    }
+
+    /// The growth of the room that they say: 0, which is never, where shorter ones don't.
+    pub(crate) fn grow_said(&self) -> u32
+        ensures { result ≡ is_grow_said self.now }
+    {
+        if self.size == SETTINGS_BYTES {
+            return self.grow;
+        }
+        0
+    }
+
+    /// Whether there is such room in such heaps.
+    fn has_room(&self) -> bool
+        ensures { IsTrue result ↔ ((is_room_said self.now ≤ self.now.blocks) × (is_grow_said self.now ≤ MOST_GROW)) }
+    {
+        self.room_said() <= self.blocks && self.grow_said() <= MOST_GROW
+    }
+
     /// Whether there are such heaps.
     pub(crate) fn fit(&self) -> bool
         ensures { IsTrue result ↔ AreSettings self.now }
@@ -86,6 +123,9 @@ impl Settings {
             return false;
         }
         if !is_register_count(self.registers()) {
+            return false;
+        }
+        if !self.has_room() {
             return false;
         }
         is_block_count(self.body_blocks)

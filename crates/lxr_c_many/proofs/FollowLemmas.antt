@@ -1,6 +1,8 @@
 -- Operations that are done one after another: one more behind some, some behind others, and the items of things that are numbered.
 use Rattle.std.proofs.Common.{◌≡◌, ℕ, suc, ◌+◌, ◌<◌, ◌∙◌, sym, ap, subst, arith, List, [], ◌∷◌, ◌++◌, length, get_or, take}
 use Rattle.std.proofs.lemmas.List.{append_assoc, length-take-le, take_more}
+use Rattle.lxr_large_model.specs.declared.LargeOp.{LargeOp}
+use Rattle.lxr_large_model.specs.declared.LargeReply.{LargeReply}
 use Rattle.lxr_large_model.specs.History.{LargeItem, Called, Paused, Renewed}
 use Rattle.lxr_heap.specs.Holding.{IsHeapOf}
 use Rattle.lxr_c_heap.specs.declared.host.HostHeap.{HostHeap}
@@ -42,3 +44,10 @@ follows_on x m y h new (Called o r ∷ newer) before done = (
 )
 follows_on x m y h new (Paused report ∷ newer) before done = absurd done
 follows_on x m y h new (Renewed ns ∷ newer) before done = absurd done
+
+-- one more of some that are replied the same
+pub follows_more : (o : ℕ → ℕ → LargeOp) (r : LargeReply) (x y z : HostHeap) (h : List LargeItem) (first : ℕ) (xs : List ℕ) (i index d : ℕ) → Follows x h y (newest_first (λ k v. Called (o k v) r) first (take i xs)) → i < length xs
+    → index ≡ first + i → Replies y z (newest_first (λ k v. Called (o k v) r) first (take i xs) ++ h) (o index (get_or xs i d)) r → Follows x h z (newest_first (λ k v. Called (o k v) r) first (take (i + 1) xs))
+follows_more o r x y z h first xs i index d before within is replies =
+    let item : ℕ → ℕ → LargeItem = λ k v. Called (o k v) r in
+    subst (Follows x h z) (sym (newest_more item first i xs d within)) (y, before, subst (λ k. Replies y z (newest_first item first (take i xs) ++ h) (o k (get_or xs i d)) r) is replies)

@@ -5,8 +5,7 @@ use Rattle.lxr_large_model.specs.declared.LargeReply.{LargeReply}
 use Rattle.lxr_large_model.specs.History.{LargeItem, Called}
 use Rattle.lxr_c_heap.specs.declared.host.TheConstants.{ENDS}
 use Rattle.lxr_c_heap.specs.declared.host.HostHeap.{HostHeap}
-use Rattle.lxr_c_heap.specs.Hosting.{Acts, IsDue, IsHostOf, Makes, PausesFor, Stores}
-use Rattle.std.specs.Prelude.{false}
+use Rattle.lxr_c_heap.specs.Hosting.{Acts, IsDue, IsHostOf, Makes, PausesFor, Stores, exceeds_room}
 use Rattle.lxr_c_heap.proofs.PacingLemmas.{paused_host, replied_host}
 use Rattle.lxr_c_heap.proofs.RoomLemmas.{paused_holds, settled_holds}
 
@@ -26,7 +25,7 @@ stores_host x y h o r is stores = acts_host stores.settled y stores.history o r 
 pub making_host : (x y : HostHeap) (h : List LargeItem) (o : LargeOp) (r : LargeReply) → IsHostOf x h → (makes : Makes x y h o r) → IsHostOf makes.acts.middle makes.acts.history
 making_host x y h o r is makes =
     needed_host o makes.paused makes.acts.middle makes.paused_history makes.acts.history
-    (paused_holds (IsDue makes.settled makes.settled_history) false makes.settled makes.paused makes.settled_history makes.paused_history
+    (paused_holds (IsDue makes.settled makes.settled_history) (exceeds_room makes.settled) makes.settled makes.paused makes.settled_history makes.paused_history
     (settled_holds ENDS x makes.settled h makes.settled_history is makes.settles) makes.pauses)
     makes.acts.pauses
 

@@ -1,5 +1,5 @@
 -- References that are loaded one after another: objects stay as they are, and the base is left what it holds up to the last.
-use Rattle.std.proofs.Common.{◌≡◌, ◌≢◌, ℕ, ◌+◌, ◌-◌, ◌<◌, ◌≤◌, ◌∙◌, refl, sym, ap, subst, arith, inl, inr, true≢false, None, List, [], ◌∷◌, ◌++◌, length, get_or, take, nat_eq}
+use Rattle.std.proofs.Common.{◌≡◌, ◌≢◌, ℕ, ◌+◌, ◌-◌, ◌<◌, ◌∙◌, refl, sym, ap, subst, arith, inl, inr, true≢false, None, List, [], ◌∷◌, ◌++◌, length, get_or, take, nat_eq}
 use Rattle.std.specs.Prelude.{IsTrue, nat_lt, not, option_map, unwrap_or}
 use Rattle.std.proofs.lemmas.Bool.{cases_lt, eq-eqb, le-ltb}
 use Rattle.std.proofs.lemmas.List.{get_or-take, length-take-le}
@@ -15,7 +15,6 @@ use Rattle.lxr_c_heap.specs.declared.host.HostHeap.{HostHeap}
 use Rattle.lxr_c_heap.specs.Hosting.{Replies}
 use Rattle.lxr_c_many.specs.Fields.{are_registers, leave_base, load_of, reference_at}
 use Rattle.lxr_c_many.specs.Following.{Follows, newest_first}
-use Rattle.lxr_c_many.specs.Steps.{HasReferences}
 use Rattle.lxr_c_many.proofs.FollowLemmas.{newest_more}
 use Rattle.lxr_c_many.proofs.StateLemmas.{load_graph, load_register}
 
@@ -46,15 +45,6 @@ pub record Loaded (x : HostHeap) (h : List LargeItem) (base first : ℕ) (target
 
 pub loaded_none : (x : HostHeap) (h : List LargeItem) (base first : ℕ) (targets : List ℕ) → Loaded x h base first targets 0 x
 loaded_none x h base first targets = record { follows = refl; graph = refl; held = λ some. refl }
-
--- the next one is there
-pub next_reference : (x y : HostHeap) (h : List LargeItem) (base first : ℕ) (targets : List ℕ) (i index : ℕ) → HasReferences (large_state h) base (first + length targets) → Loaded x h base first targets i y → i < length targets → index ≡ first + i
-    → HasReferences (large_state (newest_first (load_of (large_state h) base) first (take i targets) ++ h)) base (index + 1)
-next_reference x y h base first targets i index has loaded within is = record {
-  name = has.name;
-  held = loaded.held within ∙ has.held;
-  within = subst (λ (g : Graph). index + 1 ≤ length (refs_of (object_at g has.name))) (sym loaded.graph) (let all = has.within in omega (arith, all, within, is));
-}
 
 -- what is loaded next is what the object referred to before the first
 same_reference : (s t : LargeState) (base i : ℕ) → s.small.graph ≡ t.small.graph → register_at s.small 1 base ≡ register_at t.small 1 base → reference_at s base i ≡ reference_at t base i

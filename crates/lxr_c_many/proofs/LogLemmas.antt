@@ -1,6 +1,6 @@
 -- The log before stores: how many of their references have set bits, what settling leaves, and that a pause empties it.
 use Rattle.std.proofs.Common.{◌≡◌, ℕ, zero, suc, ◌+◌, ◌-◌, ◌*◌, ◌<◌, ◌≤◌, ◌∙◌, refl, sym, ap, subst, arith, inl, inr, Bool, true, false, Option, Some, None, List, [], ◌∷◌, ◌++◌, length, get_or, map}
-use Rattle.std.specs.Prelude.{IsTrue, not, slice_get}
+use Rattle.std.specs.Prelude.{◌&&◌, IsTrue, not, slice_get}
 use Rattle.std.proofs.lemmas.Bool.{and_from, and_left, and_right, cases_Bool, cases_lt}
 use Rattle.std.proofs.lemmas.List.{append-nil, length-map}
 use Rattle.std.proofs.lemmas.Option.{slice_get-get_or}
@@ -22,6 +22,9 @@ use Rattle.lxr_core_invariant.proofs.HeldLemmas.{IsHeld, in_register}
 use Rattle.lxr_core_invariant.specs.Imaged.{IsReferenceAt}
 use Rattle.lxr_core_inv_heap.proofs.LogsReferenceLemmas.{clear_is_cleared, set_is_uncleared}
 use Rattle.lxr_renew.proofs.StateLemmas.{refs_renewed}
+use Rattle.lxr_direct.specs.declared.known.HeldObject.{HeldObject}
+use Rattle.lxr_direct.specs.Known.{IsKnown}
+use Rattle.lxr_direct.specs.Recording.{is_unlogged}
 use Rattle.lxr_large_model.specs.History.{LargeItem, Renewed, large_moment, large_state}
 use Rattle.lxr_large_model.specs.Pauses.{most_logged}
 use Rattle.lxr_heap.specs.declared.heap.Heap.{Heap}
@@ -32,7 +35,7 @@ use Rattle.lxr_c_heap.specs.declared.host.Ends.{Ends}
 use Rattle.lxr_c_heap.specs.declared.host.HostHeap.{HostHeap}
 use Rattle.lxr_c_heap.specs.Hosting.{SettlesAt, behind_pause}
 use Rattle.lxr_c_many.specs.Recording.{LogIsShort, is_to_record, to_record, unlogged_bits}
-use Rattle.lxr_c_many.specs.Steps.{HasReferences, MayBeStored}
+use Rattle.lxr_c_many.specs.Steps.{HasReferences, HoldsYoung, MayBeStored}
 use Rattle.lxr_c_many.proofs.RecordLemmas.{as_many}
 
 -- ---- bits
@@ -146,6 +149,17 @@ module _ (x : Heap) (h : List LargeItem) (is : IsHeapOf x h) (base most : ℕ) (
 
   pub counted : (first count : ℕ) → first + count ≤ most → unlogged_bits (tables_of x.space).unlogged place.0 first count ≡ to_record m (register_at m.state 1 base) first count
   counted first count few = bits_as_many m (register_at m.state 1 base) (tables_of x.space).unlogged place.0 first count (λ i less. bit (first + i) (omega (arith, few, less)))
+
+-- of an object that was made since the last pause no unlogged bit is set
+pub young_clear : (x : Heap) (h : List LargeItem) → IsHeapOf x h → (base refs values : ℕ) → HoldsYoung h base refs values → (object : HeldObject) → IsKnown x.space 1 object → object.register ≡ base → (i : ℕ) → i < refs
+    → is_unlogged x.space object.base.place i ≡ false
+young_clear x h is base refs values young object known same i few =
+    let index : register_index 1 object.register ≡ base = omega (arith, same) in
+    let there = subst (λ k. slice_get x.space.registers.items k ≡ Some object.base.place) index known.held in
+    let m = large_moment h in
+    bit x h is base refs young.references object.base.place there i few
+    ∙ ap (λ v. is_to_record m v i) (held x h is base refs young.references object.base.place there)
+    ∙ ap (λ b. b && not (has_field m.written (young.references.name, i))) young.young
 
 -- so what a register holds has no more
 pub references_few : (x : Heap) (h : List LargeItem) → IsHeapOf x h → (base most : ℕ) → base < REGISTERS → HasReferences (large_state h) base most → most ≤ 1023

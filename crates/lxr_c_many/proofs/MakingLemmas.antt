@@ -1,5 +1,5 @@
 -- A new object has its references and its words, and no store to it is recorded, since it was made after the last pause.
-use Rattle.std.proofs.Common.{◌≡◌, ℕ, ◌+◌, ◌<◌, ◌≤◌, ◌∙◌, refl, sym, ap, subst, arith, true, false, cond, Option, Some, None, List, ◌∷◌, ◌++◌, length}
+use Rattle.std.proofs.Common.{◌≡◌, ℕ, ◌<◌, ◌≤◌, ◌∙◌, refl, sym, ap, subst, arith, true, false, cond, Option, Some, None, List, ◌∷◌, ◌++◌, length}
 use Rattle.std.proofs.lemmas.List.{get_or-set_same, length-replicate}
 use Rattle.lxr_layout.specs.declared.TheConstants.{REGISTERS}
 use Rattle.lxr_layout.specs.declared.Name.{Name}
@@ -26,11 +26,8 @@ use Rattle.lxr_c_many.specs.declared.making.Wanted.{Wanted}
 use Rattle.lxr_c_many.specs.Fields.{put_of, store_of}
 use Rattle.lxr_c_many.specs.Following.{Follows, newest_first}
 use Rattle.lxr_c_many.specs.Making.{Fills, IsWanted, makes_one, new_of}
-use Rattle.lxr_c_many.specs.Recording.{to_record}
-use Rattle.lxr_c_many.specs.Steps.{HasWords, MayBeStored}
+use Rattle.lxr_c_many.specs.Steps.{HoldsYoung}
 use Rattle.lxr_c_many.proofs.HostLemmas.{making_host}
-use Rattle.lxr_c_many.proofs.RecordLemmas.{none_of_new}
-use Rattle.lxr_c_many.proofs.StoringLemmas.{log_fits}
 
 -- ---- by the reply
 
@@ -61,11 +58,10 @@ all_registers x h is =
     let same = ap (λ (z : State). length z.registers) is.state in
     omega (arith, rows_are, same)
 
--- what may be done with a new object
+-- a new object is there to be filled
 pub record IsNew (sources words : List ℕ) (wanted : Wanted) (y : HostHeap) (k : List LargeItem) : Type 0 where
   pub holds : IsHeapOf y.heap k
-  pub references : MayBeStored k wanted.dest 0 (length sources)
-  pub data_words : HasWords (large_state k) wanted.dest (0 + length words)
+  pub young : HoldsYoung k wanted.dest (length sources) (length words)
 
 module _ (registers : ℕ) (few : registers ≤ REGISTERS) (sources words : List ℕ) (wanted : Wanted) (is : IsWanted registers sources words wanted) (x y : HostHeap) (h : List LargeItem) (n : Name) (host : IsHostOf x h)
     (replies : Replies x y h (new_of wanted) (large_reply.Small (reply.New n))) where
@@ -102,27 +98,21 @@ module _ (registers : ℕ) (few : registers ≤ REGISTERS) (sources words : List
   unreclaimed : has (large_moment k).unreclaimed n ≡ false
   unreclaimed = holds.rests.safepoint.holds.follows.apart n (made_new (large_moment h).made (reply.New n) n refl)
 
-  at_moment : register_at (large_moment k).state 1 wanted.dest ≡ Some n
-  at_moment = ap (λ (z : State). register_at z 1 wanted.dest) holds.state ∙ held
-
   new_object : IsNew sources words wanted y k
   new_object = record {
     holds = holds;
-    references = record {
-      there = record {
+    young = record {
+      references = record {
         name = n;
         held = held;
-        within = subst (λ o. 0 + length sources ≤ length (refs_of o)) (sym there) (let long = length-replicate {A = Option Name} wanted.shape.refs None in let refs = is.refs in omega (arith, long, refs));
+        within = subst (λ o. length sources ≤ length (refs_of o)) (sym there) (let long = length-replicate {A = Option Name} wanted.shape.refs None in let refs = is.refs in omega (arith, long, refs));
       };
-      room =
-          let none : to_record (large_moment k) (register_at (large_moment k).state 1 wanted.dest) 0 (length sources) ≡ 0 = ap (λ v. to_record (large_moment k) v 0 (length sources)) at_moment ∙ none_of_new (large_moment k) n 0 (length sources) unreclaimed in
-          let fits = log_fits y.heap k holds in
-          omega (arith, none, fits);
-    };
-    data_words = record {
-      name = n;
-      held = held;
-      within = subst (λ o. 0 + length words ≤ length (values_of o)) (sym there) (let long = length-replicate {A = ℕ} wanted.shape.values 0 in let values = is.values in omega (arith, long, values));
+      data_words = record {
+        name = n;
+        held = held;
+        within = subst (λ o. length words ≤ length (values_of o)) (sym there) (let long = length-replicate {A = ℕ} wanted.shape.values 0 in let values = is.values in omega (arith, long, values));
+      };
+      young = unreclaimed;
     };
   }
 

@@ -32,14 +32,6 @@ pub record_tested : (m : Moment) (base i : ℕ) → IsToRecord m 1 base i → Is
 record_tested m base i is =
     subst (λ v. IsTrue (is_to_record m v i)) (sym is.held) (and_from (has m.unreclaimed is.name) (not (has_field m.written (is.name, i))) is.unreclaimed (ap not is.unwritten))
 
--- of an object that isn't unreclaimed none has to be recorded
-pub none_of_new : (m : Moment) (n : Name) (first count : ℕ) → has m.unreclaimed n ≡ false → to_record m (Some n) first count ≡ 0
-none_of_new m n first zero new = refl
-none_of_new m n first (suc count) new =
-    let none : one_if (has m.unreclaimed n && not (has_field m.written (n, first + count))) ≡ 0 = ap (λ b. one_if (b && not (has_field m.written (n, first + count)))) new in
-    let rest = none_of_new m n first count new in
-    omega (arith, none, rest)
-
 -- ---- so many
 
 pub as_many : (m : Moment) (v : Option Name) (first count : ℕ) → to_record m v first count ≤ count

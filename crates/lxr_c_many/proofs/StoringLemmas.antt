@@ -11,7 +11,7 @@ use Rattle.lxr_full.proofs.RoomLemmas.{log_is_written}
 use Rattle.lxr_direct.specs.Operating.{LogIsFull}
 use Rattle.lxr_large_model.specs.declared.LargeOp.TheVariants as large_op
 use Rattle.lxr_large_model.specs.declared.LargeReply.TheVariants as large_reply
-use Rattle.lxr_large_model.specs.History.{LargeItem, large_moment, large_state}
+use Rattle.lxr_large_model.specs.History.{LargeItem, large_moment}
 use Rattle.lxr_large_model.specs.Pauses.{most_logged}
 use Rattle.lxr_heap.specs.declared.heap.Heap.{Heap}
 use Rattle.lxr_heap.specs.Acting.{WantsNoPause}
@@ -22,11 +22,10 @@ use Rattle.lxr_c_heap.specs.Hosting.{Replies}
 use Rattle.lxr_c_many.specs.Fields.{store_of}
 use Rattle.lxr_c_many.specs.Following.{Follows, newest_first}
 use Rattle.lxr_c_many.specs.Recording.{is_to_record, to_record}
-use Rattle.lxr_c_many.specs.Steps.{HasReferences, MayBeStored}
-use Rattle.lxr_c_many.proofs.FieldLemmas.{fewer_references}
+use Rattle.lxr_c_many.specs.Steps.{MayBeStored}
 use Rattle.lxr_c_many.proofs.FollowLemmas.{follows_holds, newest_more}
 use Rattle.lxr_c_many.proofs.RecordLemmas.{fewer, one_further, one_more, record_tested, still_to_record, stored_long}
-use Rattle.lxr_c_many.proofs.StateLemmas.{store_keeps_references, store_registers}
+use Rattle.lxr_c_many.proofs.StateLemmas.{store_registers}
 
 -- ---- the log
 
@@ -57,14 +56,13 @@ holding h base = register_at (large_moment h).state 1 base
 -- so many references were stored: what is to be stored still fits into the log
 pub record Stored (x : HostHeap) (h : List LargeItem) (base first : ℕ) (sources : List ℕ) (i : ℕ) (y : HostHeap) : Type 0 where
   pub follows : Follows x h y (newest_first (store_of base) first (take i sources))
-  pub there : HasReferences (large_state (newest_first (store_of base) first (take i sources) ++ h)) base (first + length sources)
   pub room : length (large_moment (newest_first (store_of base) first (take i sources) ++ h)).written + to_record (large_moment h) (holding h base) first (length sources)
       ≤ most_logged + to_record (large_moment h) (holding h base) first i
   pub later : (j : ℕ) → IsTrue (is_to_record (large_moment (newest_first (store_of base) first (take i sources) ++ h)) (holding (newest_first (store_of base) first (take i sources) ++ h) base) j)
       → IsTrue (is_to_record (large_moment h) (holding h base) j)
 
 pub stored_none : (x : HostHeap) (h : List LargeItem) (base first : ℕ) (sources : List ℕ) → MayBeStored h base first (length sources) → Stored x h base first sources 0 x
-stored_none x h base first sources may = record { follows = refl; there = may.there; room = let room = may.room in omega (arith, room); later = λ j is. is }
+stored_none x h base first sources may = record { follows = refl; room = let room = may.room in omega (arith, room); later = λ j is. is }
 
 module _ (x y : HostHeap) (h : List LargeItem) (base first : ℕ) (sources : List ℕ) (i : ℕ) (stored : Stored x h base first sources i y) (within : i < length sources) where
   abbrev k : List LargeItem
@@ -81,11 +79,7 @@ module _ (x y : HostHeap) (h : List LargeItem) (base first : ℕ) (sources : Lis
       let room = stored.room in
       omega (arith, one, further, few, room)
 
-  -- the next one is there
-  pub next_stored : (index : ℕ) → index ≡ first + i → HasReferences (large_state k) base (index + 1)
-  next_stored index is = fewer_references (large_state k) base (first + length sources) (index + 1) stored.there (omega (arith, within, is))
-
-  -- and needs no pause
+  -- the next one needs no pause
   pub next_wants_none : (index source : ℕ) → index ≡ first + i → IsHeapOf x.heap h → WantsNoPause y.heap k (large_op.Small (op.Store base index source))
   next_wants_none index source is holds = record {
     holds = here;
@@ -120,7 +114,6 @@ module _ (x y : HostHeap) (h : List LargeItem) (base first : ℕ) (sources : Lis
   pub stored_more : (z : HostHeap) (index : ℕ) → index ≡ first + i → Replies y z k (large_op.Small (op.Store base index (get_or sources i 0))) (large_reply.Small reply.Stored) → Stored x h base first sources (i + 1) z
   stored_more z index is replies = record {
     follows = subst (Follows x h z) (sym more) (y, stored.follows, subst (λ n. Replies y z k (large_op.Small (op.Store base n (get_or sources i 0))) (large_reply.Small reply.Stored)) is replies);
-    there = subst (λ new. HasReferences (large_state (new ++ h)) base (first + length sources)) (sym more) (store_keeps_references (large_state k) base (first + i) (get_or sources i 0) (first + length sources) stored.there);
     room = subst (λ new. length (large_moment (new ++ h)).written + to_record (large_moment h) (holding h base) first (length sources) ≤ most_logged + to_record (large_moment h) (holding h base) first (i + 1)) (sym more) still_fits;
     later = subst (λ new. (j : ℕ) → IsTrue (is_to_record (large_moment (new ++ h)) (holding (new ++ h) base) j) → IsTrue (is_to_record (large_moment h) (holding h base) j)) (sym more) (λ j is.
         stored.later j (still_to_record m base (first + i) (get_or sources i 0) j (holding k base) (subst (λ v. IsTrue (is_to_record (large_moment (next ∷ k)) v j)) same is)));

@@ -1,56 +1,15 @@
--- Data words that are written, or read, one after another.
+-- Data words that are read one after another.
 use Rattle.std.proofs.Common.{◌≡◌, ℕ, ◌+◌, ◌<◌, ◌≤◌, ◌∙◌, refl, sym, ap, subst, arith, inl, inr, Option, Some, None, List, [], ◌∷◌, ◌++◌, length, get_or, set, take, drop}
 use Rattle.std.specs.Prelude.{if◌then◌else◌, nat_le, option_map, unwrap_or}
 use Rattle.std.proofs.lemmas.Bool.{cases_Bool, le-leb}
 use Rattle.std.proofs.lemmas.List.{append-nil, append_assoc, drop_all, drop_more, get_or-drop, length-drop, length-take-le, set_at, take_more}
-use Rattle.lxr_graph.specs.declared.Op.TheVariants as op
-use Rattle.lxr_graph.specs.declared.Reply.TheVariants as reply
 use Rattle.lxr_graph.specs.State.{object_at, values_of}
-use Rattle.lxr_large_model.specs.declared.LargeOp.TheVariants as large_op
-use Rattle.lxr_large_model.specs.declared.LargeReply.TheVariants as large_reply
-use Rattle.lxr_large_model.specs.History.{LargeItem, large_state}
 use Rattle.lxr_large_model.specs.State.{LargeState}
 use Rattle.lxr_heap.specs.declared.bulk.BodyReply.{BodyReply}
 use Rattle.lxr_heap.specs.declared.bulk.BodyReply.TheVariants as body_reply
 use Rattle.lxr_heap.specs.Bulk.{words_from}
-use Rattle.lxr_c_heap.specs.declared.host.HostHeap.{HostHeap}
-use Rattle.lxr_c_heap.specs.Hosting.{Replies}
-use Rattle.lxr_c_many.specs.Fields.{comes_to, put_of, word_at, words_in}
-use Rattle.lxr_c_many.specs.Following.{Follows, newest_first}
+use Rattle.lxr_c_many.specs.Fields.{comes_to, word_at, words_in}
 use Rattle.lxr_c_many.specs.Steps.{HasWords}
-use Rattle.lxr_c_many.proofs.FollowLemmas.{newest_more}
-use Rattle.lxr_c_many.proofs.FieldLemmas.{fewer_words}
-use Rattle.lxr_c_many.proofs.StateLemmas.{put_keeps_words}
-
--- ---- writing
-
--- so many words were written: the heap is that of so many puts, and the object still has all that are to be written
-pub record Wrote (x : HostHeap) (h : List LargeItem) (base first : ℕ) (words : List ℕ) (i : ℕ) (y : HostHeap) : Type 0 where
-  pub follows : Follows x h y (newest_first (put_of base) first (take i words))
-  pub there : HasWords (large_state (newest_first (put_of base) first (take i words) ++ h)) base (first + length words)
-
-pub wrote_none : (x : HostHeap) (h : List LargeItem) (base first : ℕ) (words : List ℕ) → HasWords (large_state h) base (first + length words) → Wrote x h base first words 0 x
-wrote_none x h base first words has = record { follows = refl; there = has }
-
--- the next one is there
-pub next_word : (x y : HostHeap) (h : List LargeItem) (base first : ℕ) (words : List ℕ) (i index : ℕ) → Wrote x h base first words i y → i < length words → index ≡ first + i
-    → HasWords (large_state (newest_first (put_of base) first (take i words) ++ h)) base (index + 1)
-next_word x y h base first words i index wrote within is = fewer_words _ base (first + length words) (index + 1) wrote.there (omega (arith, within, is))
-
--- and was written
-pub wrote_more : (x y z : HostHeap) (h : List LargeItem) (base first : ℕ) (words : List ℕ) (i index d : ℕ) → Wrote x h base first words i y → i < length words → index ≡ first + i
-    → Replies y z (newest_first (put_of base) first (take i words) ++ h) (large_op.Small (op.Put base index (get_or words i d))) (large_reply.Small reply.Put) → Wrote x h base first words (i + 1) z
-wrote_more x y z h base first words i index d wrote within is replies = record {
-  follows = subst (Follows x h z) (sym more) (y, wrote.follows, put);
-  there = subst (λ new. HasWords (large_state (new ++ h)) base (first + length words)) (sym more)
-      (put_keeps_words (large_state (newest_first (put_of base) first (take i words) ++ h)) base (first + i) (get_or words i d) (first + length words) wrote.there);
-}
-  where
-    more : newest_first (put_of base) first (take (i + 1) words) ≡ put_of base (first + i) (get_or words i d) ∷ newest_first (put_of base) first (take i words)
-    more = newest_more (put_of base) first i words d within
-
-    put : Replies y z (newest_first (put_of base) first (take i words) ++ h) (large_op.Small (op.Put base (first + i) (get_or words i d))) (large_reply.Small reply.Put)
-    put = subst (λ k. Replies y z (newest_first (put_of base) first (take i words) ++ h) (large_op.Small (op.Put base k (get_or words i d))) (large_reply.Small reply.Put)) is replies
 
 -- ---- reading
 

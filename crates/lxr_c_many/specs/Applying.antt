@@ -99,7 +99,8 @@ with_told e told = record e { word = written_over e.word told.word }
 
 -- ---- operations in turn
 
--- Entries were done in turn, up to the first whose code isn't that of success: what each told, the code of the last, and how many were done with success.
+-- Entries were done in turn, up to the first whose code isn't that of success: what each told, the code of the last, and how many were done with
+-- success.
 abbrev pub Applies : HostHeap → List LargeItem → List Operation → HostHeap → List LargeItem → List Told → Applied → Type 0
 Applies x h [] y k told applied = (y ≡ x) × (k ≡ h) × (told ≡ []) × (applied ≡ record { code = code.Done; done = 0 })
 Applies x h (e ∷ es) y k told applied =
@@ -113,8 +114,8 @@ all_told [] ts = []
 all_told (e ∷ es) [] = e ∷ es
 all_told (e ∷ es) (t ∷ ts) = with_told e t ∷ all_told es ts
 
--- Entries were to be done in turn: the handle has no heap, or the numbers of one don't fit and none was done, or they were. The entries have the words
--- that were told.
+-- Entries were to be done in turn: the handle has no heap, or the numbers of one don't fit and none was done, or they were. The entries have the
+-- words that were told.
 abbrev pub AppliesAll : Kept → Kept → List Operation → List Operation → Result Applied Code → Type 0
 AppliesAll None after entries new answer = (answer ≡ Err code.NoHeap) × (after ≡ None) × (new ≡ entries)
 AppliesAll (Some x) after entries new (Err c) = AllAsk (registers_in x) entries (Err c) × (after ≡ Some x) × (new ≡ entries)

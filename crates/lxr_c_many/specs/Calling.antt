@@ -34,7 +34,8 @@ pub record PutsWords (first : ℕ) (words : List ℕ) (x y : HostHeap) (h : List
 
 -- ---- references
 
--- References from an index on were loaded, all or none: so many loads in order, each done. Each register got what the object referred to before the first.
+-- References from an index on were loaded, all or none: so many loads in order, each done. Each register got what the object referred to before the
+-- first.
 pub record LoadsReferences (first : ℕ) (targets : List ℕ) (x y : HostHeap) (h : List LargeItem) (base : ℕ) (r : BodyReply) : Type 0 where
   pub reply : r ≡ comes_to (references_in (large_state h) base) first (length targets)
   pub unchanged : r ≢ body_reply.Done → y ≡ x

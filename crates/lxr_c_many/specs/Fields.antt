@@ -1,10 +1,11 @@
 -- The fields of an object in a row that a call means, and the operations that it does with them.
-use Rattle.std.specs.Prelude.{ℕ, ◌+◌, ◌-◌, ◌==◌, ◌&&◌, nat_le, nat_lt, not, if◌then◌else◌, Option, None, Some, Result, Err, Bool, List, [], length, option_map, slice_index_or, take, unwrap_or}
+use Rattle.std.specs.Prelude.{ℕ, ◌+◌, ◌-◌, ◌==◌, ◌&&◌, nat_le, nat_lt, not, if◌then◌else◌, Option, None, Some, Result, Ok, Err, Bool, List, [], length, option_map, slice_index_or, take, unwrap_or}
 use Rattle.std.specs.List.{list_all}
 use Rattle.lxr_layout.specs.declared.Name.{Name}
 use Rattle.lxr_graph.specs.declared.Op.TheVariants as op
 use Rattle.lxr_graph.specs.declared.Reply.TheVariants as reply
 use Rattle.lxr_graph.specs.State.{object_at, refs_of, register_at, values_of}
+use Rattle.lxr_direct.specs.declared.known.HeldObject.{HeldObject}
 use Rattle.lxr_large_model.specs.declared.LargeOp.TheVariants as large_op
 use Rattle.lxr_large_model.specs.declared.LargeReply.TheVariants as large_reply
 use Rattle.lxr_large_model.specs.History.{LargeItem, Called}
@@ -33,6 +34,11 @@ within fields first count = if nat_le (first + count) fields then body_reply.Don
 abbrev pub comes_to : {A : Type 0} → Option (List A) → ℕ → ℕ → BodyReply
 comes_to None first count = body_reply.Bad
 comes_to (Some fields) first count = within (length fields) first count
+
+-- what it is replied that an object was looked up with all of them, or that it wasn't
+abbrev pub found_reply : Result HeldObject BodyReply → BodyReply
+found_reply (Ok object) = body_reply.Done
+found_reply (Err refused) = refused
 
 -- data word i of the object that a register holds
 abbrev pub word_at : LargeState → ℕ → ℕ → ℕ

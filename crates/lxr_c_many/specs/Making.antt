@@ -40,8 +40,8 @@ abbrev pub makes_one : LargeReply → Bool
 makes_one (large_reply.Small (reply.New n)) = true
 makes_one r = false
 
--- What is done behind the operation that makes an object, on a heap m of history k: its references are stored and then its words are put, in order, each
--- done; nothing where no object was made.
+-- What is done behind the operation that makes an object, on a heap m of history k: its references are stored and then its words are put, in order,
+-- each done; nothing where no object was made.
 abbrev pub Fills : Wanted → List ℕ → List ℕ → HostHeap → List LargeItem → HostHeap → LargeReply → Type 0
 Fills wanted sources words m k y (large_reply.Small (reply.New n)) = Follows m k y (newest_first (put_of wanted.dest) 0 words ++ newest_first (store_of wanted.dest) 0 sources)
 Fills wanted sources words m k y r = y ≡ m

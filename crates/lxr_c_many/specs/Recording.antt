@@ -10,7 +10,8 @@ use Rattle.lxr_blocks.specs.Masks.{one_if}
 use Rattle.lxr_large_model.specs.History.{LargeItem, large_moment}
 use Rattle.lxr_large_model.specs.Pauses.{most_logged}
 
--- Reference i of what is held has to be recorded before it is stored to: it is one of an unreclaimed object, and wasn't stored to since the last pause.
+-- Reference i of what is held has to be recorded before it is stored to: it is one of an unreclaimed object, and wasn't stored to since the last
+-- pause.
 abbrev pub is_to_record : Moment → Option Name → ℕ → Bool
 is_to_record m None i = false
 is_to_record m (Some n) i = has m.unreclaimed n && not (has_field m.written (n, i))

@@ -1,6 +1,7 @@
 -- What has to hold before operations in a row, so that each is done.
 use Rattle.std.specs.Prelude.{◌≡◌, ℕ, ◌+◌, ◌≤◌, false, Some, List, length}
 use Rattle.lxr_layout.specs.declared.Name.{Name}
+use Rattle.lxr_graph.specs.Names.{has}
 use Rattle.lxr_graph.specs.State.{object_at, refs_of, register_at, values_of}
 use Rattle.lxr_large_model.specs.History.{LargeItem, large_moment, large_state}
 use Rattle.lxr_large_model.specs.Pauses.{most_logged}
@@ -26,8 +27,14 @@ pub record MayBeStored (h : List LargeItem) (base first count : ℕ) : Type 0 wh
   pub there : HasReferences (large_state h) base (first + count)
   pub room : length (large_moment h).written + to_record (large_moment h) (register_at (large_moment h).state 1 base) first count ≤ most_logged
 
--- Before so many references of what a register holds are stored to, the heap settles, and a plain pause is made exactly where the log has no room for what
--- the stores record. Then they may be stored to.
+-- a register holds an object that was made since the last pause, with so many references and so many data words
+pub record HoldsYoung (h : List LargeItem) (base refs values : ℕ) : Type 0 where
+  pub references : HasReferences (large_state h) base refs
+  pub data_words : HasWords (large_state h) base values
+  pub young : has (large_moment h).unreclaimed references.name ≡ false
+
+-- Before so many references of what a register holds are stored to, the heap settles, and a plain pause is made exactly where the log has no room
+-- for what the stores record. Then they may be stored to.
 pub record PausesForStores (base first count : ℕ) (x y : HostHeap) (h : List LargeItem) : Type 0 where
   pub settled : HostHeap
   pub settled_history : List LargeItem

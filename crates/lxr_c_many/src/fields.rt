@@ -1,14 +1,16 @@
 //! Which fields of an object a call means, and whether they are all there.
-ghost use Rattle.std.specs.Prelude.{◌≡◌, ◌+◌, ◌<◌, ◌≤◌, ◌^◌, nat_le, IfOk, IsTrue, List};
+ghost use Rattle.std.specs.Prelude.{◌≡◌, ◌≢◌, ◌+◌, ◌<◌, ◌≤◌, ◌^◌, nat_le, IfErr, IfOk, IsTrue, List};
 ghost use Rattle.lxr_layout.specs.declared.TheConstants.{REGISTERS};
+ghost use Rattle.lxr_direct.specs.Known.{IsKnown};
 ghost use Rattle.lxr_large_model.specs.History.{LargeItem, large_state};
 ghost use Rattle.lxr_heap.specs.declared.bulk.BodyReply.TheVariants as body_reply;
 ghost use Rattle.lxr_heap.specs.Holding.{IsHeapOf};
 ghost use Rattle.lxr_c_many.specs.Fields as fields;
-ghost use Rattle.lxr_c_many.specs.Fields.{comes_to, references_in, words_in};
+ghost use Rattle.lxr_c_many.specs.Fields.{comes_to, found_reply, references_in, words_in};
 
 use lxr_c_base::Code;
 use lxr_c_base::requests::register_of;
+use lxr_direct::HeldObject;
 use lxr_heap::{BodyReply, LargeHeap};
 
 /// Whether an object with so many fields of a kind has these: so many from `first` on.
@@ -22,27 +24,47 @@ fn has_all(most: u16, first: u32, count: usize) -> bool
     first <= most && count <= most - first
 }
 
-/// Whether what `base` holds has so many data words from `first` on.
+/// The object that `base` holds, where it has so many data words from `first` on; else what is wrong.
 #[inline(always)]
-pub(crate) fn find_words(heap: &LargeHeap, base: u8, first: u32, count: usize) -> BodyReply
-    ensures found { (h : List LargeItem) → IsHeapOf heap.now h → result ≡ comes_to (words_in (large_state h) base) first count }
-    ensures few { result ≡ body_reply.Done → first + count < 2 ^ 16 }
+pub(crate) fn find_words(
+    heap: &LargeHeap,
+    base: u8,
+    first: u32,
+    count: usize,
+) -> Result<HeldObject, BodyReply>
+    ensures found { (h : List LargeItem) → IsHeapOf heap.now h → found_reply result ≡ comes_to (words_in (large_state h) base) first count }
+    ensures object { IfOk result (λ object. IsKnown heap.now.space 1 object × (object.register ≡ base) × (first + count ≤ object.base.shape.values) × (first + count < 2 ^ 16)) }
+    ensures refused { IfErr result (λ refused. refused ≢ body_reply.Done) }
 {
-    match heap.shape(base) {
-        None => BodyReply::Bad,
-        Some((shape, _)) => BodyReply::of(has_all(shape.values, first, count)),
+    let Some(object) = heap.look_up(base) else {
+        return Err(BodyReply::Bad);
+    };
+    if has_all(object.base.shape.values, first, count) {
+        Ok(object)
+    } else {
+        Err(BodyReply::Range)
     }
 }
 
-/// Whether what `base` holds has so many references from `first` on.
+/// The object that `base` holds, where it has so many references from `first` on; else what is wrong.
 #[inline(always)]
-pub(crate) fn find_references(heap: &LargeHeap, base: u8, first: u32, count: usize) -> BodyReply
-    ensures found { (h : List LargeItem) → IsHeapOf heap.now h → result ≡ comes_to (references_in (large_state h) base) first count }
-    ensures few { result ≡ body_reply.Done → first + count < 2 ^ 16 }
+pub(crate) fn find_references(
+    heap: &LargeHeap,
+    base: u8,
+    first: u32,
+    count: usize,
+) -> Result<HeldObject, BodyReply>
+    ensures found { (h : List LargeItem) → IsHeapOf heap.now h → found_reply result ≡ comes_to (references_in (large_state h) base) first count }
+    ensures object { IfOk result (λ object. IsKnown heap.now.space 1 object × (object.register ≡ base) × (first + count ≤ object.base.shape.refs) × (first + count < 2 ^ 16)) }
+    ensures refused { IfErr result (λ refused. refused ≢ body_reply.Done) }
 {
-    match heap.shape(base) {
-        None => BodyReply::Bad,
-        Some((shape, _)) => BodyReply::of(has_all(shape.refs, first, count)),
+    let Some(object) = heap.look_up(base) else {
+        return Err(BodyReply::Bad);
+    };
+    if has_all(object.base.shape.refs, first, count) {
+        Ok(object)
+    } else {
+        Err(BodyReply::Range)
     }
 }
 

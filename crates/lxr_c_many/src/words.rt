@@ -1,5 +1,6 @@
 //! Data words of an object in a row.
-ghost use Rattle.std.specs.Prelude.{◌≡◌, ◌+◌, ◌<◌, ◌^◌, List, OnErr, length, unwrap_or};
+ghost use Rattle.std.specs.Prelude.{◌≡◌, ◌+◌, ◌<◌, ◌≤◌, ◌^◌, List, OnErr, length, unwrap_or};
+ghost use Rattle.lxr_direct.specs.Known.{IsKnown};
 ghost use Rattle.lxr_large_model.specs.History.{LargeItem, large_state};
 ghost use Rattle.lxr_heap.specs.Bulk.{words_from};
 ghost use Rattle.lxr_heap.specs.Holding.{IsHeapOf};
@@ -17,34 +18,37 @@ use crate::steps::{put_at, word_at};
 use lxr_c_base::Code;
 use lxr_c_base::requests::register_of;
 use lxr_c_heap::{Handle, HostHeap};
+use lxr_direct::HeldObject;
 use lxr_heap::{BodyReply, LargeHeap};
 
-/// Reads data words, on the condition that they are all there.
+/// Reads data words of an object.
 #[inline(always)]
-fn read_all(heap: &LargeHeap, base: u8, first: u16, words: &mut [u64])
-    requires holds { ∥ ((h : List LargeItem) × IsHeapOf heap.now h) ∥₁ }
+fn read_all(heap: &LargeHeap, object: HeldObject, first: u16, words: &mut [u64])
+    requires known { IsKnown heap.now.space 1 object }
+    requires there { first + length words.old ≤ object.base.shape.values }
     requires few { first + length words.old < 2 ^ 16 }
-    requires there { (h : List LargeItem) → IsHeapOf heap.now h → HasWords (large_state h) base (first + length words.old) }
-    ensures { (h : List LargeItem) → IsHeapOf heap.now h → words.new ≡ unwrap_or (words_from (words_in (large_state h) base) first (length words.old)) words.old }
+    ensures { (h : List LargeItem) → IsHeapOf heap.now h → HasWords (large_state h) object.register (first + length words.old)
+        → words.new ≡ unwrap_or (words_from (words_in (large_state h) object.register) first (length words.old)) words.old }
 {
     for (i, word) in words.iter_mut().enumerate() {
-        *word = word_at(heap, base, first + i as u16);
+        *word = word_at(heap, object, first + i as u16);
     }
 }
 
-/// Writes data words, where they are all there.
+/// Writes data words of an object.
 #[inline(always)]
-pub(crate) fn write_all(heap: &mut HostHeap, base: u8, first: u16, words: &[u64])
+pub(crate) fn write_all(heap: &mut HostHeap, object: HeldObject, first: u16, words: &[u64])
     requires serving { IsServing heap.old }
-    requires base { base < registers_in heap.old }
+    requires base { object.register < registers_in heap.old }
+    requires known { IsKnown heap.old.heap.space 1 object }
+    requires there { first + length words.now ≤ object.base.shape.values }
     requires few { first + length words.now < 2 ^ 16 }
-    ensures follows { (h : List LargeItem) → IsHeapOf heap.old.heap h → HasWords (large_state h) base (first + length words.now)
-        → Follows heap.old h heap.new (newest_first (put_of base) first words.now) }
+    ensures follows { (h : List LargeItem) → IsHeapOf heap.old.heap h → Follows heap.old h heap.new (newest_first (put_of object.register) first words.now) }
     ensures registers { registers_in heap.new ≡ registers_in heap.old }
     ensures serving { IsServing heap.new }
 {
     for (i, word) in words.iter().enumerate() {
-        put_at(heap, base, first + i as u16, *word);
+        put_at(heap, object, first + i as u16, *word);
     }
 }
 
@@ -56,11 +60,11 @@ pub fn read(heap: &LargeHeap, base: u8, first: u32, words: &mut [u64]) -> BodyRe
         → (result ≡ comes_to (words_in (large_state h) base) first (length words.old)) × (words.new ≡ unwrap_or (words_from (words_in (large_state h) base) first (length words.old)) words.old) }
 {
     match find_words(heap, base, first, words.len()) {
-        BodyReply::Done => {
-            read_all(heap, base, first as u16, words);
+        Ok(object) => {
+            read_all(heap, object, first as u16, words);
             BodyReply::Done
         }
-        refused => refused,
+        Err(refused) => refused,
     }
 }
 
@@ -74,11 +78,11 @@ pub fn write(heap: &mut HostHeap, base: u8, first: u32, words: &[u64]) -> BodyRe
     ensures serving { IsServing heap.new }
 {
     match find_words(&heap.heap, base, first, words.len()) {
-        BodyReply::Done => {
-            write_all(heap, base, first as u16, words);
+        Ok(object) => {
+            write_all(heap, object, first as u16, words);
             BodyReply::Done
         }
-        refused => refused,
+        Err(refused) => refused,
     }
 }
 

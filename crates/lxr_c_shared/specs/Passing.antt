@@ -82,8 +82,8 @@ IsNotLetOut x n (unsent.NoBox refused home) = ⊥
 IsNotLetOut x n unsent.NoHeap = ⊥
 IsNotLetOut x n unsent.InUse = ⊥
 
--- Why none leaves for a station whose box is to be made: it isn't let out; or it was, a box was refused (`NoBox`), which `boxed` alone answers, and it has
--- come home again as it was.
+-- Why none leaves for a station whose box is to be made: it isn't let out; or it was, a box was refused (`NoBox`), which `boxed` alone answers, and
+-- it has come home again as it was.
 abbrev pub IsNotSent : Heaped → ℕ → NotSent → Type 0
 IsNotSent x n (unsent.Kept why) = IsKept x n why
 IsNotSent x n (unsent.NoBox refused home) = (s : Stationed) × IsPassOf x.stage n s × (home ≡ Some (Some s))
@@ -158,7 +158,8 @@ abbrev pub registers_in : MayHold → ℕ
 registers_in (Some (owned.Away p)) = registers_of p.pass.actor
 registers_in x = REGISTERS
 
--- no operation is open, and there is no room for one that it may be asked for: it was ordered all that one of its number may be (`mutators_have_limits`)
+-- no operation is open, and there is no room for one that it may be asked for: it was ordered all that one of its number may be
+-- (`mutators_have_limits`)
 abbrev pub IsUsedUp : AnyActor → Op → Type 0
 IsUsedUp (any.Mutator m) o = (¬ IsOpen (any.Mutator m)) × (IsOperation m.width o → HasNoRoom m)
 IsUsedUp a o = ⊥

@@ -11,7 +11,7 @@ use Rattle.lxr_shared_heap.specs.declared.heap.Paused.TheVariants as paused
 use Rattle.lxr_shared_heap.specs.declared.heap.Resumed.{Resumed}
 use Rattle.lxr_shared_heap.specs.declared.heap.Resumed.TheVariants as resumed
 use Rattle.lxr_shared_heap.specs.declared.settings.Settings.{Settings}
-use Rattle.lxr_shared_heap.specs.Heaps.{Heaped, IsAtRest, IsHeapOf, IsOpened, Pauses, Resumes, most_asked}
+use Rattle.lxr_shared_heap.specs.Heaps.{Heaped, IsAtRest, IsHeapOf, IsOpened, Pauses, Resumes, free_at, most_asked}
 use Rattle.lxr_shared_heap.specs.Settings.{AreSettings}
 use Rattle.lxr_c_base.specs.declared.codes.Code.{Code}
 use Rattle.lxr_c_base.specs.declared.codes.Code.TheVariants as code
@@ -67,8 +67,8 @@ IsSizeOrMemory e = (e ≡ code.Size) ⊎ (e ≡ code.Memory)
 abbrev pub OpensSome : MayHold → Wishes → Code → Type 0
 OpensSome after w answer = ((o : Owned) × (answer ≡ code.Done) × (after ≡ Some o) × IsNewHeap o w) ⊎ (IsSizeOrMemory answer × (after ≡ None))
 
--- A heap was to be opened: the handle has something already; or a setting is out of its range, exactly where the code says so; or there is no memory; or
--- it is opened.
+-- A heap was to be opened: the handle has something already; or a setting is out of its range, exactly where the code says so; or there is no
+-- memory; or it is opened.
 abbrev pub OpensHeap : MayHold → MayHold → Wishes → Code → Type 0
 OpensHeap (Some x) after w answer = (answer ≡ code.InUse) × (after ≡ Some x)
 OpensHeap None after w answer = ((answer ≡ code.Size) ↔ ¬ AreFit w) × OpensSome after w answer
@@ -123,9 +123,10 @@ of_shared n =
     else (if n == 2 then Ok (shared.Pause of.Dead)
     else (if n == 3 then Ok (shared.Pause of.Stuck)
     else (if n == 4 then Ok (shared.Pause of.Swept)
+    else (if n == 6 then Ok shared.FreeBlocks
     else (if n == 11 then Ok (shared.Pause of.Kind)
     else (if n == 12 then Ok shared.Asked
-    else Err code.What))))))
+    else Err code.What)))))))
 
 -- the number of a kind of pause
 abbrev pub number_of_kind : Kind → ℕ
@@ -155,10 +156,16 @@ abbrev pub CountsAsked : Heaped → Result ℕ Code → Type 0
 CountsAsked x (Ok n) = IsAtRest x.stage × ((script : Script) (h : List Item) → IsHeapOf script h x → n ≡ most_asked script)
 CountsAsked x (Err e) = ¬ IsAtRest x.stage × (e ≡ code.Epoch)
 
+-- So many blocks are without objects, as the last pause left them.
+abbrev pub CountsFree : Heaped → Result ℕ Code → Type 0
+CountsFree x (Ok n) = free_at x.stage ≡ Some n
+CountsFree x (Err e) = (free_at x.stage ≡ None) × (e ≡ code.Epoch)
+
 -- what is counted by a number of the program's
 abbrev pub CountsBy : Heaped → Result OfShared Code → Result ℕ Code → Type 0
 CountsBy x (Ok (shared.Pause what)) answer = CountsLast x what answer
 CountsBy x (Ok shared.Asked) answer = CountsAsked x answer
+CountsBy x (Ok shared.FreeBlocks) answer = CountsFree x answer
 CountsBy x (Err e) answer = answer ≡ Err e
 
 -- Something was to be counted, and nothing has changed.

@@ -2,7 +2,7 @@
 ghost use Rattle.std.specs.Prelude.{◌≡◌, ◌↔◌, IfErr, IfOk};
 ghost use Rattle.lxr_graph.specs.History.{report_of};
 ghost use Rattle.lxr_c_shared.specs.Holding.{At};
-ghost use Rattle.lxr_c_shared.specs.Sharing.{AreFit, ClosesHeap, CountsAsked, CountsLast, CountsPause, IsNewHeap, IsOpenedBy, IsSizeOrMemory, OpensHeap, PausesHeap, ResumesHeap, is_shared, counted_in as is_counted_in, number_of_kind as is_number_of_kind, of_shared as is_of_shared, paused_code as is_paused_code, resumed_code as is_resumed_code};
+ghost use Rattle.lxr_c_shared.specs.Sharing.{AreFit, ClosesHeap, CountsAsked, CountsFree, CountsLast, CountsPause, IsNewHeap, IsOpenedBy, IsSizeOrMemory, OpensHeap, PausesHeap, ResumesHeap, is_shared, counted_in as is_counted_in, number_of_kind as is_number_of_kind, of_shared as is_of_shared, paused_code as is_paused_code, resumed_code as is_resumed_code};
 
 use crate::boxing::{Unboxed, boxed};
 use crate::holder::Holder;
@@ -37,6 +37,8 @@ pub enum OfShared {
     Pause(OfPause),
     /// Operations of the thread that was ordered most of them, since names were renewed.
     Asked,
+    /// Blocks without objects, as the last pause left them.
+    FreeBlocks,
 }
 
 /// What is counted by a number.
@@ -49,6 +51,7 @@ fn of_shared(number: u32) -> Result<OfShared, Code>
         2 => Ok(OfShared::Pause(OfPause::Dead)),
         3 => Ok(OfShared::Pause(OfPause::Stuck)),
         4 => Ok(OfShared::Pause(OfPause::Swept)),
+        6 => Ok(OfShared::FreeBlocks),
         11 => Ok(OfShared::Pause(OfPause::Kind)),
         12 => Ok(OfShared::Asked),
         _ => Err(Code::What),
@@ -100,6 +103,16 @@ fn count_asked(heap: &Heap) -> Result<u64, Code>
 {
     match heap.asked_most() {
         Some(most) => Ok(most),
+        None => Err(Code::Epoch),
+    }
+}
+
+/// How many blocks are without objects, between two epochs.
+fn count_free(heap: &Heap) -> Result<u64, Code>
+    ensures { CountsFree heap.now result }
+{
+    match heap.free_blocks() {
+        Some(free) => Ok(u64::from(free)),
         None => Err(Code::Epoch),
     }
 }
@@ -200,6 +213,7 @@ impl Owned {
             Owned::Shared(sealed) => match of_shared(number) {
                 Ok(OfShared::Pause(what)) => count_last(&sealed.heap, what),
                 Ok(OfShared::Asked) => count_asked(&sealed.heap),
+                Ok(OfShared::FreeBlocks) => count_free(&sealed.heap),
                 Err(code) => Err(code),
             },
             Owned::Home(_) => Err(Code::NoHeap),

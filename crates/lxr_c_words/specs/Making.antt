@@ -14,8 +14,8 @@ use Rattle.lxr_c_heap.specs.declared.host.HostHeap.{HostHeap}
 use Rattle.lxr_c_heap.specs.Hosting.{Makes, Replies}
 use Rattle.lxr_c_words.specs.Words.{words_at}
 
--- The object that is wanted for so many words: one of so many data words and no reference, and beyond 1,023 of them a large one, whose body has room for
--- one word more.
+-- The object that is wanted for so many words: one of so many data words and no reference, and beyond 1,023 of them a large one, whose body has
+-- room for one word more.
 abbrev pub words_wanted : ℕ → ℕ → ℕ → Request
 words_wanted registers dest length = if nat_le length MOST_FIELDS then new registers dest 0 length else big registers dest (length / WORDS_IN_BLOCK + 1)
 
@@ -46,7 +46,8 @@ HasPlaceFor length (large_op.Small (op.New dest shape)) = (shape.refs ≡ 0) × 
 HasPlaceFor length (large_op.Big dest blocks) = length < WORDS_IN_BLOCK * blocks
 HasPlaceFor length o = ⊥
 
--- An object was made for so many words, after the pauses that this needs, or refused as full; and the number of words is in the body that it has for them. All of them are 0.
+-- An object was made for so many words, after the pauses that this needs, or refused as full; and the number of words is in the body that it has
+-- for them. All of them are 0.
 pub record MakesWords (length : ℕ) (x y : HostHeap) (h : List LargeItem) (o : LargeOp) (r : LargeReply) : Type 0 where
   pub made : HostHeap
   pub makes : Makes x made h o r

@@ -144,11 +144,15 @@ told_stands s g p v n shape is some told =
     }
 
 -- no header at a place tells that its object was moved
-pub none_moved : (s : Space) (g : AbstractState) (p q : Place) (v : Option Name) → IsPlaceOf s g p v → p.0 ≢ 0 → header_of ((tables_of s).heap (first_word p.0)) ≡ header.Moved q → v ≡ None
-none_moved s g p q v is some told =
+pub never_moved : (s : Space) (g : AbstractState) (p q : Place) (v : Option Name) → IsPlaceOf s g p v → p.0 ≢ 0 → header_of ((tables_of s).heap (first_word p.0)) ≡ header.Moved q → ⊥
+never_moved s g p q v is some told =
     let h : Has s g p v = has_object s g p v is some in
     let e : header.Moved q ≡ header.Object h.name (shape_of h.object) = sym told ∙ h.told in
     absurd (cc)
+
+-- so nothing is told of one
+pub none_moved : (s : Space) (g : AbstractState) (p q : Place) (v : Option Name) → IsPlaceOf s g p v → p.0 ≢ 0 → header_of ((tables_of s).heap (first_word p.0)) ≡ header.Moved q → v ≡ None
+none_moved s g p q v is some told = absurd (never_moved s g p q v is some told)
 
 -- an object lies inside the heap
 pub stands_inside : (s : Space) (g : AbstractState) (v : Option Name) (n : Name) (base : Base) → IsPlaceOf s g base.place v → StandsAt g base.place v n base.shape → LiesInside s base

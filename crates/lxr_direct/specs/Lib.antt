@@ -1,2 +1,4 @@
 pub mod Operating
 pub mod Recording
+pub mod Known
+pub mod Trying

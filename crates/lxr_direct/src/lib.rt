@@ -7,15 +7,19 @@
 #![tactic(auto)]
 
 mod fields;
+mod known;
 mod operating;
 mod reading;
 mod recording;
 mod registers;
+mod trying;
 
 pub use fields::get;
+pub use known::{HeldObject, get_in, load_from, look_up, put_in, store_to, store_young};
 use lxr_graph::Reply;
 pub use operating::{operate, same};
-pub use reading::{is_nil, name_in, object_in};
+pub use reading::{Base, is_nil, name_in, object_in};
+pub use trying::{try_get, try_load, try_put};
 
 /// What has come of an operation.
 #[derive(Clone, Copy, Debug, PartialEq, Eq)]

@@ -1,5 +1,5 @@
 //! What stands in the heap at the places that registers and references hold.
-ghost use Rattle.std.specs.Prelude.{◌≡◌, ◌↔◌, ℕ, ◌+◌, ◌*◌, ◌<◌, IsTrue, None, Option};
+ghost use Rattle.std.specs.Prelude.{◌≡◌, ◌≢◌, ◌↔◌, ℕ, ◌+◌, ◌*◌, ◌<◌, IsTrue, None, Option};
 ghost use Rattle.std.specs.Option.{ForSome};
 ghost use Rattle.lxr_layout.specs.declared.Name.{Name as NameOf};
 ghost use Rattle.lxr_layout.specs.declared.TheConstants.{WORDS_IN_BLOCK};
@@ -7,7 +7,7 @@ ghost use Rattle.lxr_layout.specs.Places.{IsPlace, field_word, first_word, place
 ghost use Rattle.lxr_graph.specs.State.{register_at};
 ghost use Rattle.lxr_image.specs.Spaces.{IsSpace, tables_of};
 ghost use Rattle.lxr_invariant.specs.AbstractState.{AbstractState};
-ghost use Rattle.lxr_direct.specs.Operating.{CanOperate, IsBase, IsPlaceOf, LiesInside, MayOperate, Tells, named_shape};
+ghost use Rattle.lxr_direct.specs.Operating.{CanOperate, IsBase, IsPlaceOf, LiesInside, MayOperate, StandsAt, Tells, named_shape};
 
 use crate::registers::held;
 use lxr_image::Space;
@@ -76,6 +76,19 @@ pub fn is_nil(space: &Space, thread: u8, register: u8) -> bool
     held(space, thread, register).0 == 0
 }
 
+/// The shape of the object at a place that isn't nil.
+#[inline(always)]
+fn shape_at(space: &Space, place: Place) -> Shape
+    requires stands { (g : AbstractState) × (v : Option NameOf) × IsPlaceOf space.now g place v }
+    requires some { place.0 ≢ 0 }
+    ensures { (g : AbstractState) (v : Option NameOf) → IsPlaceOf space.now g place v → (name : NameOf) × StandsAt g place v name result }
+{
+    match unpack(space.heap_word(word_of(place))) {
+        Header::Object(_, shape) => shape,
+        Header::Moved(_) => unreachable!(),
+    }
+}
+
 /// The object that a thread's register holds; none where it is nil.
 #[inline(always)]
 pub fn base_of(space: &Space, thread: u8, register: u8) -> Option<Base>
@@ -84,10 +97,11 @@ pub fn base_of(space: &Space, thread: u8, register: u8) -> Option<Base>
     ensures inside { ForSome result (LiesInside space.now) }
 {
     let place = held(space, thread, register);
-    match object_at(space, place) {
-        Some((_, shape)) => Some(Base { place, shape }),
-        None => None,
+    if place.0 == 0 {
+        return None;
     }
+    let shape = shape_at(space, place);
+    Some(Base { place, shape })
 }
 
 /// The place that a reference holds.

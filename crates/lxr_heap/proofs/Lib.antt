@@ -14,7 +14,9 @@ pub mod PausingLemmas
 pub mod OpeningLemmas
 pub mod BulkLemmas
 pub mod LookingLemmas
+pub mod KnownLemmas
 pub mod TellingLemmas
 pub mod RenewingLemmas
 pub mod NumberLemmas
 pub mod WantingLemmas
+pub mod TryingLemmas

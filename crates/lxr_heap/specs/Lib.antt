@@ -5,3 +5,5 @@ pub mod Looking
 pub mod Bulk
 pub mod Telling
 pub mod Renewing
+pub mod Known
+pub mod Trying

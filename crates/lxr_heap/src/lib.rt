@@ -9,11 +9,13 @@
 mod acting;
 mod bulk;
 mod heap;
+mod known;
 mod looking;
 mod opening;
 mod pausing;
 mod renewing;
 mod telling;
+mod trying;
 
 ghost use Rattle.std.specs.Prelude.{◌≡◌, ◌↔◌, ◌+◌, ◌-◌, ◌^◌, ◌<◌, ◌≤◌, IfOk, IsTrue, List, [], None, length, unwrap_or};
 ghost use Rattle.lxr_layout.specs.declared.TheConstants.{LEAST_REGISTERS, MOST_BLOCKS, REGISTERS};

@@ -1,8 +1,9 @@
 -- A stage that is done straight is the step of its phase, and brings the mutator nearer.
 use Rattle.std.proofs.Common.{◌≡◌, ℕ, ◌+◌, ◌-◌, ◌<◌, Bool, true, false, arith, refl, sym, ap, subst, ◌∙◌}
-use Rattle.std.specs.Prelude.{IsSome, None, if◌then◌else◌, nat_lt}
+use Rattle.std.specs.Prelude.{IsSome, None, if◌then◌else◌, nat_le, nat_lt}
 use Rattle.lxr_layout.specs.declared.Place.{Place}
 use Rattle.lxr_layout.specs.Objects.{word_count}
+use Rattle.lxr_graph.specs.declared.Op.{Op}
 use Rattle.lxr_actor.specs.Machine.{to_go}
 use Rattle.lxr_actor.specs.Steps.{Does}
 use Rattle.lxr_barrier.specs.declared.machines.StorePhase.{StorePhase}
@@ -10,11 +11,13 @@ use Rattle.lxr_barrier.specs.declared.machines.StorePhase.TheVariants as store_p
 use Rattle.lxr_barrier.specs.Storing.{Storing, action_in as store_action, end_in}
 use Rattle.lxr_mutator.specs.declared.phases.MutatorPhase.{MutatorPhase}
 use Rattle.lxr_mutator.specs.declared.phases.MutatorPhase.TheVariants as phase
-use Rattle.lxr_mutator.specs.Mutating.{Mutating}
+use Rattle.lxr_mutator.specs.Mutating.{Mutating, op_now, rests_in}
 use Rattle.lxr_mutator.specs.Steps.{action, after_in, left_in, mutator_machine, next_in, shape_now, wiped}
-use Rattle.lxr_mutator.specs.Mutators.{IsBusy, IsMutator}
+use Rattle.lxr_mutator.specs.Laws.{StepsByRule, does_one, finds_asked, finds_end, gave_up, goes_on, stands_still}
+use Rattle.lxr_mutator.specs.Mutators.{IsAskedIn, IsBusy, IsMutator}
 use Rattle.lxr_mutator.proofs.NearerLemmas.{ready_nearer, storing_nearer}
 use Rattle.lxr_mutator.proofs.NowLemmas.{few_words}
+use Rattle.lxr_mutator.proofs.StepLemmas.{done_rests, step_by_rule}
 
 -- what a stage leads to is what the step of its phase leads to
 pub staged : {S : Type 0} (did : S → Mutating → ℕ → S → Type 0) (m m' : Mutating) (s t : S) (p : MutatorPhase) (old : ℕ)
@@ -58,3 +61,16 @@ store_acts_in s (store_phase.Ended how) e = absurd (cc)
 
 pub store_acts : (m : Mutating) (store : Storing) → IsBusy m (phase.Storing store) → IsSome (action m)
 store_acts m store busy = subst (λ (p : MutatorPhase). IsSome (action (record m { phase = p }))) (sym busy.phase) (store_acts_in store store.phase busy.may.1)
+
+-- as long as a unit goes on, its operation is the one whose turn it is
+same_op : (m : Mutating) (old : ℕ) (to : Mutating) → StepsByRule m old to → rests_in to.phase ≡ false → op_now to ≡ op_now m
+same_op m old to (goes_on log registers spans p busy) on = refl
+same_op m old to (finds_asked ready is) on = absurd (cc)
+same_op m old to (finds_end ready unasked is) on = absurd (cc)
+same_op m old to (gave_up why is) on = absurd (cc)
+same_op m old to (does_one log registers r) on = let rest = done_rests (nat_le m.every (m.since + 1)) in absurd (cc)
+same_op m old to (stands_still is) on = refl
+
+pub still_asked : {S : Type 0} (did : S → Mutating → ℕ → S → Type 0) (m m' : Mutating) (s t : S) (o : Op)
+    → o ≡ op_now m → Does mutator_machine did m s m' t → IsAskedIn m'.phase o (op_now m')
+still_asked did m m' s t o is does busy = is ∙ sym (same_op m does.old m' (subst (StepsByRule m does.old) (sym does.after) (step_by_rule m does.old)) busy)

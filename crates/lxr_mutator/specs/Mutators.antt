@@ -150,6 +150,10 @@ pub record IsBusy (m : Mutating) (p : MutatorPhase) : Type 0 where
   pub operation : length m.replies.items < length m.operations
   pub may : MayBeIn m p
 
+-- where a unit is in progress by this phase, the operation is the one whose turn it is
+abbrev pub IsAskedIn : MutatorPhase → Op → Op → Type 0
+IsAskedIn p o now = rests_in p ≡ false → o ≡ now
+
 -- a mutator as it is made, with this agenda
 abbrev pub first_with : ℕ → Dialogue → Limits → ℕ → Bool → Mutating
 first_with thread agenda limits every names = record {

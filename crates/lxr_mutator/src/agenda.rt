@@ -155,6 +155,15 @@ impl Agenda {
         self.at_hand = op;
     }
 
+    /// Says again which operation's turn it is: the code that follows is made for that one.
+    #[inline(always)]
+    pub fn recall(&mut self, op: Op)
+        requires { op ≡ op_at_hand self.old }
+        ensures { self.new ≡ self.old }
+    {
+        self.at_hand = op;
+    }
+
     /// Puts a reply behind those that there are.
     #[inline(always)]
     pub fn answer(&mut self, reply: Reply)
@@ -216,7 +225,7 @@ impl Agenda {
 
 impl Kept {
     /// Puts a reply behind those that there are, and tells the operation whose turn it is then.
-    #[inline(always)]
+    #[inline(never)]
     fn answer(&mut self, reply: Reply) -> Op
         requires { length self.old.replies.items < self.old.replies.room }
         ensures kept { self.new ≡ record self.old { replies = pushed self.old.replies reply } }

@@ -429,6 +429,15 @@ impl Mutator {
         self.agenda.op()
     }
 
+    /// Says again which operation's turn it is, so that the code that follows is made for that one alone, where it is known.
+    #[inline(always)]
+    fn recall(&mut self, op: Op)
+        requires { op ≡ op_now self.old }
+        ensures { self.new ≡ self.old }
+    {
+        self.agenda.recall(op);
+    }
+
     /// The shape of what the `new` in progress makes.
     #[inline(always)]
     fn shape(&self) -> Shape

@@ -1,12 +1,19 @@
 -- How units of actors end, and what holds of an actor between two of them.
 use Rattle.std.specs.Prelude.{◌≡◌, ℕ, Bool, true, false, Option, Some, None, List, IsSome, is_some, option_map, slice_get}
+use Rattle.lxr_graph.specs.declared.Op.{Op}
 use Rattle.lxr_mutator.specs.declared.phases.MutEnd.{MutEnd}
 use Rattle.lxr_mutator.specs.declared.phases.MutEnd.TheVariants as ends
+use Rattle.lxr_mutator.specs.Mutating.{op_now}
 use Rattle.lxr_core.specs.declared.actors.AnyActor.{AnyActor}
 use Rattle.lxr_core.specs.declared.actors.AnyActor.TheVariants as any
 use Rattle.lxr_core.specs.Actors.{any_machine}
 use Rattle.lxr_shared.specs.declared.turns.Turn.{Turn}
 use Rattle.lxr_shared.specs.declared.turns.Turn.TheVariants as turn
+
+-- the actor is a mutator, and this is the operation whose turn it is
+abbrev pub IsNextOf : AnyActor → Op → Type 0
+IsNextOf (any.Mutator m) o = o ≡ op_now m
+IsNextOf a o = ⊥
 
 -- the end of an actor's last unit: none before its first unit of the epoch
 abbrev pub end_of : AnyActor → Option Turn

@@ -3,10 +3,10 @@ ghost use Rattle.std.specs.Prelude.{◌≡◌, ℕ, ◌≤◌, List, length, IsS
 ghost use Rattle.lxr_actor.specs.declared.Event.TheVariants.{Give, Order, Out};
 ghost use Rattle.lxr_shared_passes.specs.Passing.{IsSamePass, Told, Turned};
 ghost use Rattle.lxr_core.specs.Actors.{any_machine};
-ghost use Rattle.lxr_shared.specs.Ends.{GoesOnByEnd, end_of};
+ghost use Rattle.lxr_shared.specs.Ends.{GoesOnByEnd, IsNextOf, end_of};
 ghost use Rattle.lxr_shared.specs.Sharing.{ToldOfHelper};
 
-use crate::kinds::ByKind;
+use crate::kinds::{ByKind, Carrying};
 use crate::turns::{Turn, last_turn, unit_is_short};
 use lxr_core::AnyActor;
 use lxr_graph::Op;
@@ -112,11 +112,22 @@ impl Pass {
         ensures rests { any_machine.rests self.new.actor ≡ true }
     {
         unit_is_short(self.pass.actor());
-        self.pass.turn_by::<ByKind>(table);
+        self.pass.turn_by(&ByKind, table);
         let Some(turn) = last_turn(self.pass.actor()) else {
             unreachable!()
         };
         turn
+    }
+
+    /// Does one unit of a mutator whose next operation is this one. Where the caller knows the operation, the code is made for it alone.
+    #[inline(always)]
+    pub fn carry_out_at(&mut self, table: &PassTable<AnyActor>, op: Op)
+        requires op { IsNextOf self.old.actor op }
+        requires epoch { self.old.epoch ≡ table.now.id }
+        ensures pass { IsSamePass self.old self.new }
+        ensures unit { (olds : List ℕ) × (length olds ≤ any_machine.left self.old.actor) × Turned any_machine self.old olds self.new }
+    {
+        self.pass.turn_by(&Carrying { op }, table);
     }
 
     /// Offers the actor a place. Whether it took the place: a mutator takes none, and nothing is done at the table for it.

@@ -4,6 +4,7 @@ ghost use Rattle.std.specs.Prelude.{◌≡◌};
 use lxr_actor::{Actor, Steps, do_unit};
 use lxr_core::AnyActor;
 use lxr_decrement::Decrementer;
+use lxr_graph::Op;
 use lxr_mutator::Mutator;
 use lxr_shared_passes::{PassTable, Seated, Turning};
 use lxr_trace::Tracer;
@@ -73,13 +74,45 @@ pub(crate) struct ByKind;
 
 // What LLVM makes of a match of three arms asks for the last one first; most units are mutators'.
 impl Turning<AnyActor> for ByKind {
+    ghost suits = { λ way a. Unit {0} };
+
     #[inline(always)]
-    fn do_unit(actor: &mut AnyActor, seated: &mut Seated<AnyActor>, epoch: &PassTable<AnyActor>) {
+    fn do_unit(
+        &self,
+        actor: &mut AnyActor,
+        seated: &mut Seated<AnyActor>,
+        epoch: &PassTable<AnyActor>,
+    ) {
         let table = KindTable { epoch };
         match actor {
             AnyActor::Tracer(tracer) => do_unit(&mut **tracer, seated, &table),
             AnyActor::Decrementer(decrementer) => do_unit(&mut **decrementer, seated, &table),
             AnyActor::Mutator(mutator) => mutator.do_unit(seated, &table),
+        }
+    }
+}
+
+/// The way of a mutator whose next operation is this one: where that is known, the code is made for it alone.
+#[derive(Drop)]
+pub(crate) struct Carrying {
+    pub op: Op,
+}
+
+impl Turning<AnyActor> for Carrying {
+    ghost use Rattle.lxr_shared.specs.Ends.{IsNextOf};
+
+    ghost suits = { λ way a. IsNextOf a way.op };
+
+    #[inline(always)]
+    fn do_unit(
+        &self,
+        actor: &mut AnyActor,
+        seated: &mut Seated<AnyActor>,
+        epoch: &PassTable<AnyActor>,
+    ) {
+        match actor {
+            AnyActor::Mutator(mutator) => mutator.do_unit_of(self.op, seated, &KindTable { epoch }),
+            AnyActor::Decrementer(_) | AnyActor::Tracer(_) => unreachable!(),
         }
     }
 }

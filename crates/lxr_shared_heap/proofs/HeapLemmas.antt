@@ -8,6 +8,7 @@ use Rattle.lxr_graph.specs.History.{Item, Pause, PauseReport, Renew, replies_of,
 use Rattle.lxr_model.specs.Moments.{Moment, moment}
 use Rattle.lxr_rounds_history.specs.Left.{last_report}
 use Rattle.lxr_image.specs.declared.space.Space.{Space}
+use Rattle.lxr_image.specs.Spaces.{IsSpace}
 use Rattle.lxr_layout.specs.declared.limits.Limits.{Limits}
 use Rattle.lxr_model.proofs.CollectLemmas.{whole_so_far}
 use Rattle.lxr_model.specs.Belongs.{IsHistorySoFar, Script}
@@ -287,6 +288,12 @@ stands_renewed false is tells settings script h g space actors idle space' actor
   newest = subst (λ xs. EndByNewest h (mutators_in xs)) (sym renews.1) newest;
   told = subst (λ (s : Space). TellsWanted (ends_with_renewal h) s.report) (sym renews.0) (tells_none h space unrenewed untold);
 }
+
+-- its space is one
+pub renewed_space : (due : Bool) (settings : Settings) (script : Script) (h : List Item) (g : AbstractState) (space : Space) (actors : List AnyActor) (idle : Bool) (space' : Space) (actors' : List AnyActor) → StandsIdle settings script space actors h g idle
+    → RenewsWhere due space actors idle space' actors' → IsSpace space'
+renewed_space true settings script h g space actors idle space' actors' stands renews = (renews settings script h g stands).between.between.safepoint.holds.space
+renewed_space false settings script h g space actors idle space' actors' stands renews = subst IsSpace (sym renews.0) stands.between.between.safepoint.holds.space
 
 -- there are as many actors
 pub renewed_many : (due : Bool) (settings : Settings) (script : Script) (h : List Item) (g : AbstractState) (space : Space) (actors : List AnyActor) (idle : Bool) (space' : Space) (actors' : List AnyActor) → StandsIdle settings script space actors h g idle

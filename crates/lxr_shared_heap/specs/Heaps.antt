@@ -5,7 +5,10 @@ use Rattle.lxr_layout.specs.declared.Name.{Name}
 use Rattle.lxr_graph.specs.declared.Op.{Op}
 use Rattle.lxr_graph.specs.declared.Reply.{Reply}
 use Rattle.lxr_graph.specs.History.{Item, PauseReport, Renew}
+use Rattle.std.specs.Option.{option_map}
 use Rattle.lxr_image.specs.declared.space.Space.{Space}
+use Rattle.lxr_image.specs.Settled.{free_below}
+use Rattle.lxr_image.specs.Spaces.{tables_of}
 use Rattle.lxr_model.specs.Belongs.{IsHistorySoFar, Script}
 use Rattle.lxr_model.specs.Kinds.{MustCollect}
 use Rattle.lxr_model_laws.specs.ScriptLaws.{GoesOn}
@@ -69,6 +72,10 @@ space_at (stage.Within live) = None
 space_at (stage.Ended space actors) = Some space
 space_at stage.Lost = None
 
+-- how many blocks of a heap at rest are without objects
+abbrev pub free_at : Stage → Option ℕ
+free_at at = option_map (λ (space : Space). free_below (tables_of space) space.limits.blocks) (space_at at)
+
 -- between two epochs
 abbrev pub IsBetween : Stage → Type 0
 IsBetween (stage.Between space actors) = ⊤
@@ -105,8 +112,8 @@ actors_of settings = settings.mutators + 2 * settings.helpers
 
 -- ---- what a heap stands for
 
--- An epoch is open: it was opened between epochs, behind this history of what was asked by the end of the last one, with the actors of then. Its mutators
--- began with the replies and the last ends that those had; and an end with a reply told the newest of its thread.
+-- An epoch is open: it was opened between epochs, behind this history of what was asked by the end of the last one, with the actors of then. Its
+-- mutators began with the replies and the last ends that those had; and an end with a reply told the newest of its thread.
 pub record HasOpened (task : Task) (h : List Item) (epoch : Sharing) : Type 0 where
   pub space : Space
   pub actors : List AnyActor
@@ -121,8 +128,8 @@ pub record HasOpened (task : Task) (h : List Item) (epoch : Sharing) : Type 0 wh
   pub shown : shown_of (mutators_in running.opened.core.actors) ≡ shown_of (mutators_in actors)
   pub newest : EndByNewest h (mutators_in actors)
 
--- Where it stands it stands for a history of what was asked by the end of the last epoch. While it goes on its mutators may be ordered operations, and
--- where the last unit of one ended with a reply, that is the newest of its thread.
+-- Where it stands it stands for a history of what was asked by the end of the last epoch. While it goes on its mutators may be ordered operations,
+-- and where the last unit of one ended with a reply, that is the newest of its thread.
 abbrev pub StandsFor : Task → List Item → Stage → Type 0
 StandsFor task h (stage.Between space actors) = ((g : AbstractState) × IsBetweenEpochs task space None actors.items h g) × AreLive (mutators_in actors.items) × EndByNewest h (mutators_in actors.items)
 StandsFor task h (stage.Within live) = HasOpened task h live.epoch
@@ -187,8 +194,8 @@ abbrev pub IsPassOf : Stage → ℕ → Stationed → Type 0
 IsPassOf (stage.Within live) number s = IsStationOf (housed_in live) number s
 IsPassOf _ number s = ⊥
 
--- why a pass is not let out: where no epoch is open, by where the heap stands; and for want of a share of the epoch only by a refusal of one (`NoShare`),
--- which `another_share` alone makes
+-- why a pass is not let out: where no epoch is open, by where the heap stands; and for want of a share of the epoch only by a refusal of one
+-- (`NoShare`), which `another_share` alone makes
 abbrev pub IsKept : Heaped → ℕ → NotOut → Type 0
 IsKept heap number kept.NotRunning = IsBetween heap.stage
 IsKept heap number kept.Ended = IsEnded heap.stage
@@ -218,8 +225,8 @@ OpenIsTold = (script : Script) (h : List Item) (heap : Heaped) (number : ℕ) (s
 abbrev pub MutatorsComeFirst : Type 0
 MutatorsComeFirst = (script : Script) (h : List Item) (heap : Heaped) (number : ℕ) (s : Stationed) → IsHeapOf script h heap → IsPassOf heap.stage number s → (number < heap.settings.mutators) ↔ (is_mutator s.pass.actor ≡ true)
 
--- A mutator may name as many registers as the heap's settings say. It has room for as many operations as one of its number may be ordered, with the reply
--- of its end and one to spare: so one that has no room was ordered all of these.
+-- A mutator may name as many registers as the heap's settings say. It has room for as many operations as one of its number may be ordered, with the
+-- reply of its end and one to spare: so one that has no room was ordered all of these.
 pub record HasLimits (settings : Settings) (number : ℕ) (m : Mutating) : Type 0 where
   pub registers : m.width ≡ settings.registers
   pub room : m.replies.room ≡ most_operations (number + 1) + 2
@@ -234,13 +241,14 @@ MutatorsHaveLimits = (script : Script) (h : List Item) (heap : Heaped) (number :
 abbrev pub still_asked : List Mutating → Script
 still_asked mutators = map (λ (m : Mutating). drop (length m.replies.items) m.operations) mutators
 
--- Where this is due names were renewed behind the history, and each of these mutators is then asked for what it has not done; else nothing has changed.
+-- Where this is due names were renewed behind the history, and each of these mutators is then asked for what it has not done; else nothing has
+-- changed.
 abbrev pub IsRenewed : Type 0 → List Mutating → Script → List Item → Script → List Item → Type 0
 IsRenewed Due mutators script h script' h' = ((¬ Due) × (script' ≡ script) × (h' ≡ h)) ⊎ (Due × (names : List Name) × (h' ≡ Renew names ∷ h) × (script' ≡ still_asked mutators))
 
--- A heap has come to rest behind an epoch that had led to these calls: the pause was made, what waited is answered, and names are renewed exactly where that
--- is due. Before that the replies of each mutator, with those that the pause has answered, are its thread's in the history. The last report lists counts
--- where names were renewed, and else none.
+-- A heap has come to rest behind an epoch that had led to these calls: the pause was made, what waited is answered, and names are renewed exactly
+-- where that is due. Before that the replies of each mutator, with those that the pause has answered, are its thread's in the history. The last
+-- report lists counts where names were renewed, and else none.
 pub record ComesToRest (settings : Settings) (script : Script) (calls : List Item) (mutators : List Mutating) (now : Stage) : Type 0 where
   pub report : PauseReport
   pub collects : (report.kind ≡ kind.Collect) ↔ MustCollect (terms_of (run_of settings script)) calls
@@ -264,9 +272,9 @@ abbrev pub HaveCome : Stage → List Event → List Mutating → Type 0
 HaveCome (stage.Within live) events mutators = mutators ≡ map given_up (mutators_in (run any_machine live.epoch.opening events).actors)
 HaveCome _ events mutators = ⊥
 
--- A pause was made. By the end of the epoch, which some schedule of events has led to, its mutators were asked for more, and the history had gone on by calls
--- alone, in which each has the replies that it showed; then the pause was made, which collects exactly where it must; the history goes on behind it by what
--- waited and by the further pauses for that; and behind all that the names of what is left are renewed where that is due.
+-- A pause was made. By the end of the epoch, which some schedule of events has led to, its mutators were asked for more, and the history had gone
+-- on by calls alone, in which each has the replies that it showed; then the pause was made, which collects exactly where it must; the history goes
+-- on behind it by what waited and by the further pauses for that; and behind all that the names of what is left are renewed where that is due.
 pub record HasPaused (script : Script) (h : List Item) (before : Heaped) (of : IsHeapOf script h before) (after : Heaped) : Type 0 where
   pub script' : Script
   pub goes_on : GoesOn script script'
@@ -293,14 +301,14 @@ Pauses paused.NotRunning before after = IsBetween before.stage × (after ≡ bef
 Pauses paused.Ended before after = IsEnded before.stage × (after ≡ before)
 Pauses paused.Lost before after = (before.stage ≡ stage.Lost) × (after ≡ before)
 
--- Each mutator that was handed in is the one of its number, with all that it was asked for and all its replies: of it its log's entries and what it had
--- drawn alone have gone.
+-- Each mutator that was handed in is the one of its number, with all that it was asked for and all its replies: of it its log's entries and what it
+-- had drawn alone have gone.
 abbrev pub AreAsHandedIn : List (Option Arrival) → List Mutating → Type 0
 AreAsHandedIn handed mutators = (number : ℕ) (s : Stationed) (m : Mutating) → IsHandedIn handed number s → s.pass.actor ≡ any.Mutator m → slice_get mutators number ≡ Some (given_up m)
 
--- A pause was made, and the mutators that were handed in are those of its history. Each station that was has seen a beginning of the schedule, with all
--- events of its own, and each whose homecoming was handed in has seen a beginning. The history in which a station told what it answered is a beginning of the
--- pause's; and so is that of each station whose homecoming was handed in, in which it told what it had answered when it came home.
+-- A pause was made, and the mutators that were handed in are those of its history. Each station that was has seen a beginning of the schedule, with
+-- all events of its own, and each whose homecoming was handed in has seen a beginning. The history in which a station told what it answered is a
+-- beginning of the pause's; and so is that of each station whose homecoming was handed in, in which it told what it had answered when it came home.
 pub record HasPausedWith (handed : List (Option Arrival)) (script : Script) (h : List Item) (before : Heaped) (of : IsHeapOf script h before) (after : Heaped) : Type 0 where
   pub made : HasPaused script h before of after
   pub as_handed_in : AreAsHandedIn handed made.mutators
@@ -313,8 +321,9 @@ abbrev pub IsWantedIn : Stage → List (Option Arrival) → Type 0
 IsWantedIn (stage.Within live) handed = IsWantedByAll (housed_in live) 0 handed []
 IsWantedIn _ handed = ⊥
 
--- What has come of the wish for a pause with stations and homecomings that are handed in: the same, but a pass that is away is none of a station's; where
--- no pause is wanted none of the stations wants one, and not all are handed in with all mutators ended; and where threads have shares a pause is wanted.
+-- What has come of the wish for a pause with stations and homecomings that are handed in: the same, but a pass that is away is none of a station's;
+-- where no pause is wanted none of the stations wants one, and not all are handed in with all mutators ended; and where threads have shares a pause
+-- is wanted.
 abbrev pub PausesWith : List (Option Arrival) → Paused → Heaped → Heaped → Type 0
 PausesWith handed paused.Made before after = IsWithin before.stage × ((script : Script) (h : List Item) (of : IsHeapOf script h before) → HasPausedWith handed script h before of after)
 PausesWith handed paused.NotWanted before after = Pauses paused.NotWanted before after × ((number : ℕ) (s : Stationed) → IsHandedIn handed number s → ¬ Wants s.pass.actor) × ¬ HaveEndedFrom (actors_of before.settings) 0 handed

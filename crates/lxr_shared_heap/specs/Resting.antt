@@ -37,8 +37,8 @@ abbrev pub StandsBehind : Bool → Task → Space → List AnyActor → List Ite
 StandsBehind true task space actors h = HasRunTo task space None actors h
 StandsBehind false task space actors h = (g : AbstractState) × IsBetweenEpochs task space None actors h g
 
--- The pause behind an epoch was made, which collects exactly where it must, and what waited is answered. Nobody was asked for anything. It is the last one
--- where all mutators have ended.
+-- The pause behind an epoch was made, which collects exactly where it must, and what waited is answered. Nobody was asked for anything. It is the
+-- last one where all mutators have ended.
 pub record HasRested (task : Task) (calls : List Item) (actors : List AnyActor) (space' : Space) (actors' : List AnyActor) (ended : Bool) : Type 0 where
   pub report : PauseReport
   pub collects : (report.kind ≡ kind.Collect) ↔ MustCollect (terms_of task) calls

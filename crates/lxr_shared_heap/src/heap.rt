@@ -7,7 +7,7 @@ ghost use Rattle.lxr_invariant.specs.AbstractState.{AbstractState};
 ghost use Rattle.lxr_one_pause.specs.Telling.{TellsWanted};
 ghost use Rattle.lxr_rounds_history.specs.Left.{last_report};
 ghost use Rattle.lxr_rounds_invariant.specs.LoopInvariant.{HasRunEpoch};
-ghost use Rattle.lxr_shared_heap.specs.Heaps.{ComesToRest, DoneIsTold, HeapsHaveHistories, IsAtRest, IsHeapOf, IsKept, IsOpened, IsPassOf, MutatorsComeFirst, MutatorsHaveLimits, OpenIsTold, Pauses, PausesWith, Resumes, StationsTellHistories, most_asked, most_asked_with, paused_for, space_at};
+ghost use Rattle.lxr_shared_heap.specs.Heaps.{ComesToRest, DoneIsTold, HeapsHaveHistories, IsAtRest, IsHeapOf, IsKept, IsOpened, IsPassOf, MutatorsComeFirst, MutatorsHaveLimits, OpenIsTold, Pauses, PausesWith, Resumes, StationsTellHistories, free_at, most_asked, most_asked_with, paused_for, space_at};
 ghost use Rattle.lxr_core.specs.Actors.{mutators_in, script_of};
 ghost use Rattle.lxr_stations.specs.Living.{AreLive};
 ghost use Rattle.lxr_shared_heap.specs.Renewing.{ends_with_renewal};
@@ -173,7 +173,8 @@ impl Heap {
     /// a heap lives for ever though names have serials of 32 bits: behind a pause that drained its decrements and for which no `new` waited, where no
     /// trace runs and no mutator has ended.
     ///
-    /// Within an epoch `Away`, `Shared` and `NotWanted` tell of what threads may change at once, and no clause says that they come only where it is so.
+    /// Within an epoch `Away`, `Shared` and `NotWanted` tell of what threads may change at once, and no clause says that they come only where it is
+    /// so.
     ///
     /// The scheme is that of LXR (Zhao, Blackburn and McKinley, 2022).
     pub fn pause(&mut self) -> Paused
@@ -190,16 +191,16 @@ impl Heap {
         self.pause_by(&mut [], watch)
     }
 
-    /// As `pause`, with what threads hand in, the k-th place for the pass of number k: its station, or the homecoming of one; a place may be empty, and the
-    /// list may be short. Each is to be of the epoch that is open, which one owner of the heap knows, and nobody behind a lock. The pass of a station that
-    /// is handed in needn't be at home. The history in which each station told what it answered, or had answered when it came home, is a beginning of the
-    /// pause's, which so has the replies of all. One is handed in for each number. That a station goes on from a homecoming of its number no clause says,
-    /// and where no pause is made the homecomings are gone. Where none is made passes which were handed in, or were at home, are at home, which no clause
-    /// says either.
+    /// As `pause`, with what threads hand in, the k-th place for the pass of number k: its station, or the homecoming of one; a place may be empty,
+    /// and the list may be short. Each is to be of the epoch that is open, which one owner of the heap knows, and nobody behind a lock. The pass of
+    /// a station that is handed in needn't be at home. The history in which each station told what it answered, or had answered when it came home,
+    /// is a beginning of the pause's, which so has the replies of all. One is handed in for each number. That a station goes on from a homecoming
+    /// of its number no clause says, and where no pause is made the homecomings are gone. Where none is made passes which were handed in, or were
+    /// at home, are at home, which no clause says either.
     ///
-    /// `Away` is answered of no pass whose station is handed in, and `NotWanted` not where one of them is of a mutator that is held up or has asked, nor
-    /// where all are handed in and all mutators have ended. `Shared` is answered only where by all passes, those of the stations among them, a pause is
-    /// wanted.
+    /// `Away` is answered of no pass whose station is handed in, and `NotWanted` not where one of them is of a mutator that is held up or has
+    /// asked, nor where all are handed in and all mutators have ended. `Shared` is answered only where by all passes, those of the stations among
+    /// them, a pause is wanted.
     pub fn pause_with(&mut self, mut arrivals: Vec<Option<Arrival>>) -> Paused
         requires { (number : ℕ) (s : Stationed) → Tells arrivals.items number s → IsPassOf self.old.stage number s }
         ensures { PausesWith arrivals.items result self.old self.new }
@@ -234,6 +235,13 @@ impl Heap {
         ensures number { (script : Script) (h : List Item) → IsHeapOf script h self.now → IfSome result (λ number. number ≡ (moment (length script) h).number) }
     {
         Some(self.stage.at_rest()?.pauses())
+    }
+
+    /// How many blocks are without objects: some exactly where `pauses` is.
+    pub fn free_blocks(&self) -> Option<u32>
+        ensures { result ≡ free_at self.now.stage }
+    {
+        Some(self.stage.at_rest()?.free_blocks())
     }
 
     /// How many operations the mutator has been ordered since names were renewed last that has been ordered most, where each of a mutator after the

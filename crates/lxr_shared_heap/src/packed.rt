@@ -3,6 +3,8 @@
 //! The words of a space are plain memory, which stays with one thread. As a table of atomic words they may go anywhere. So a space is
 //! packed by opening a table over its words, on which nobody steps, and unpacked by closing it: they are the same words.
 ghost use Rattle.std.specs.Prelude.{◌≡◌, ◌<◌, length};
+ghost use Rattle.lxr_image.specs.Settled.{free_below};
+ghost use Rattle.lxr_image.specs.Spaces.{IsSpace, tables_of};
 
 use atomic_table::{Seat, Table, TableRule};
 use lxr_graph::Report;
@@ -71,45 +73,62 @@ pub(crate) struct Packed {
     /// None where there are no words.
     words: Option<StillWords>,
     rest: Rest,
+    /// How many blocks are Free: counted as it was packed.
+    free: u32,
 }
 
 impl Model for Packed {
     ghost use Rattle.lxr_image.specs.declared.space.Space.{Space};
     ghost use Rattle.lxr_image.specs.Parts.{whole};
-    ghost use Rattle.lxr_image.specs.Settled.{KnowsWords};
+    ghost use Rattle.std.specs.Prelude.{◌≡◌};
+    ghost use Rattle.lxr_image.specs.Settled.{KnowsWords, free_below};
+    ghost use Rattle.lxr_image.specs.Spaces.{tables_of};
     ghost use Rattle.lxr_tables.specs.Words.{words_in};
 
     ghost Value = { Space };
 
     ghost view = { λ p. whole (words_in p.words) p.rest };
 
-    ghost invariant = { λ p. KnowsWords p.rest.settled (words_in p.words) };
+    ghost invariant = { λ p. KnowsWords p.rest.settled (words_in p.words) × (p.free ≡ free_below (tables_of (whole (words_in p.words) p.rest)) p.rest.limits.blocks) };
 }
 
 impl Packed {
     /// Packs a space. It takes no memory.
     pub(crate) fn of(space: Space) -> Packed
+        requires { IsSpace space }
         ensures { result ≡ space }
     {
+        let free = space.free_blocks();
         let (words, rest) = space.into_parts();
         let words = if words.count() == 0 {
             None
         } else {
             Some(StillWords::of(words))
         };
-        Packed { words, rest }
+        Packed { words, rest, free }
     }
 
     /// Unpacks it. It takes no memory.
     pub(crate) fn into_space(self, alloc: Global) -> Space
         ensures { result ≡ self }
     {
-        let Packed { words, rest } = self;
+        let Packed {
+            words,
+            rest,
+            free: _,
+        } = self;
         let words = match words {
             Some(words) => words.into_words(),
             None => PlainWords::empty(alloc),
         };
         Space::from_parts(words, rest)
+    }
+
+    /// How many blocks are Free.
+    pub(crate) fn free_blocks(&self) -> u32
+        ensures { result ≡ free_below (tables_of self.now) self.now.limits.blocks }
+    {
+        self.free
     }
 
     /// The report of the last pause.

@@ -85,16 +85,17 @@ impl<A: Actor> ActorPass<A> {
         ensures pass { IsSamePass self.old self.new }
         ensures unit { (olds : List ℕ) × (length olds ≤ A.machine.left self.old.actor) × Turned A.machine self.old olds self.new }
     {
-        self.turn_by::<StepByStep>(epoch);
+        self.turn_by(&StepByStep, epoch);
     }
 
-    /// Does one unit in the way `W`, by no more steps than the actor's bound. A finished actor makes no step.
+    /// Does one unit in a way that is for the actor, by no more steps than the actor's bound. A finished actor makes no step.
     #[inline(always)]
-    pub fn turn_by<W: Turning<A>>(&mut self, epoch: &PassTable<A>)
-        requires { self.old.epoch ≡ epoch.now.id }
+    pub fn turn_by<W: Turning<A>>(&mut self, way: &W, epoch: &PassTable<A>)
+        requires suits { W.suits way.now self.old.actor }
+        requires epoch { self.old.epoch ≡ epoch.now.id }
         ensures pass { IsSamePass self.old self.new }
         ensures unit { (olds : List ℕ) × (length olds ≤ A.machine.left self.old.actor) × Turned A.machine self.old olds self.new }
     {
-        W::do_unit(&mut self.actor, &mut self.seated, epoch);
+        way.do_unit(&mut self.actor, &mut self.seated, epoch);
     }
 }

@@ -1,8 +1,9 @@
 -- A unit of an actor changes nothing of what it was asked for, and leaves its replies or adds one to them.
 use Rattle.std.proofs.Common.{◌≡◌, ◌∙◌, ℕ, ◌+◌, ◌-◌, Bool, true, false, Option, Some, None, List, [], ◌∷◌, ◌++◌, length, length-append, inl, inr, ⊎_elim, refl, sym, ap, subst, arith}
-use Rattle.std.specs.Prelude.{◌⊎◌, nat_le, slice_get, slice_index}
+use Rattle.std.specs.Prelude.{◌⊎◌, nat_le, slice_get, slice_index, slice_index_or}
 use Rattle.std.proofs.lemmas.Bool.{cases_lt}
 use Rattle.lxr_graph.specs.declared.Op.{Op}
+use Rattle.lxr_graph.specs.declared.Op.TheVariants as op
 use Rattle.lxr_graph.specs.declared.Reply.{Reply}
 use Rattle.lxr_graph.specs.declared.Reply.TheVariants as reply
 use Rattle.lxr_actor.specs.declared.Event.TheVariants.{Order}
@@ -22,6 +23,7 @@ use Rattle.lxr_core.specs.declared.actors.AnyActor.{AnyActor}
 use Rattle.lxr_core.specs.declared.actors.AnyActor.TheVariants as any
 use Rattle.lxr_core.specs.Actors.{any_machine}
 use Rattle.lxr_shared.proofs.UnitEnds.{acted_actor}
+use Rattle.lxr_shared.specs.Ends.{IsNextOf}
 use Rattle.lxr_shared_passes.specs.Passing.{DoesStep, GoesOn, Passing, Told, Turned}
 use Rattle.lxr_stations.specs.declared.station.Answer.{Answer}
 use Rattle.lxr_stations.specs.declared.station.Answer.TheVariants as answer
@@ -172,6 +174,26 @@ opened a b o is no_more =
     let longer = ap length taken.0 ∙ length-append (asked a) (o ∷ []) in
     let replies = ap length taken.1 in
     omega (arith, same, longer, replies)
+
+-- behind so many replies stands the operation that was ordered
+read_behind_all : (os : List Op) (o : Op) (count : ℕ) → count ≡ length os → slice_index_or (os ++ o ∷ []) count op.End ≡ o
+read_behind_all os o count is = ap (λ n. slice_index_or (os ++ o ∷ []) n op.End) is ∙ there os
+  where
+    there : (xs : List Op) → slice_index_or (xs ++ o ∷ []) (length xs) op.End ≡ o
+    there [] = refl
+    there (x ∷ xs) = there xs
+
+next_in_order : (b : AnyActor) (os : List Op) (o : Op) (count : ℕ) → asked b ≡ os ++ o ∷ [] → length (replied b) ≡ count → count ≡ length os → IsNextOf b o
+next_in_order (any.Mutator m) os o count now replies same =
+    sym (ap (λ xs. slice_index_or xs (length m.replies.items) op.End) now ∙ ap (λ n. slice_index_or (os ++ o ∷ []) n op.End) replies ∙ read_behind_all os o count same)
+next_in_order (any.Decrementer d) os o count now replies same = let none = ap length now in let more = length-append os (o ∷ []) in absurd (omega (arith, none, more))
+next_in_order (any.Tracer d) os o count now replies same = let none = ap length now in let more = length-append os (o ∷ []) in absurd (omega (arith, none, more))
+
+-- once an actor has taken an order, the operation is the one whose turn it is
+pub next_ordered : (a b : AnyActor) (o : Op) → (b, true) ≡ any_machine.ordered a o → HasNoMore a → IsNextOf b o
+next_ordered a b o is no_more =
+    let taken = order_taken a b o is in
+    next_in_order b (asked a) o (length (replied a)) taken.0 (ap length taken.1) (all_replied a o (taken_up a b o is) no_more)
 
 -- an operation that was ordered is the open one, and what comes of it is what the order is answered with
 pub answered : (p r q : Passing AnyActor) (o : Op) (reply : Option Reply) → Told any_machine p (Order p.number o) r → (r.actor, true) ≡ any_machine.ordered p.actor o → HasNoMore p.actor → HasGoneOn r reply q → HasAnswered p o (answer_of reply) q

@@ -3,7 +3,7 @@ ghost use Rattle.std.specs.Prelude.{◌≡◌, ◌⊎◌, ℕ, ◌≤◌, ◌↔
 ghost use Rattle.std.specs.Arc.{arc_value};
 ghost use Rattle.lxr_layout.specs.declared.TheConstants.{REGISTERS};
 ghost use Rattle.lxr_core.specs.Actors.{any_machine};
-ghost use Rattle.lxr_shared.specs.Ends.{end_of};
+ghost use Rattle.lxr_shared.specs.Ends.{IsNextOf, end_of};
 ghost use Rattle.lxr_shared_passes.specs.Passing.{Turned};
 ghost use Rattle.lxr_stations.specs.Homes.{IsAbsent};
 ghost use Rattle.lxr_stations.specs.Stations.{Ends, HasAnswered, HasGoneOn, HasNoMore, HasTurned, Helps, IsNoOrder, IsNotOut, IsOpen, IsSameStation, IsStationOf, StaysPassOf, found_work, is_mutator, newest_of, registers_of, replied};
@@ -242,9 +242,27 @@ impl Station {
         if !self.pass.order_at(self.shared.table(), op) {
             return why_not(self.actor());
         }
-        match self.advance() {
+        match self.carry_out(op) {
             Some(reply) => Answer::Done(reply),
             None => Answer::Waits,
+        }
+    }
+
+    /// Goes on with the operation that was just ordered, by a unit. Where the caller knows the operation, the code is made for it alone.
+    #[inline(always)]
+    fn carry_out(&mut self, op: Op) -> Option<Reply>
+        requires open { IsOpen self.old.pass.actor }
+        requires op { IsNextOf self.old.pass.actor op }
+        ensures pass { IsSameStation self.old self.new }
+        ensures stays { StaysPassOf self.old self.new }
+        ensures reply { HasGoneOn self.old.pass result self.new.pass }
+    {
+        let done = self.done();
+        self.unit_of(op);
+        if self.done() == done {
+            None
+        } else {
+            self.newest()
         }
     }
 
@@ -315,6 +333,17 @@ impl Station {
         ensures found { result ≡ found_work (end_of self.new.pass.actor) }
     {
         found_work(self.turn())
+    }
+
+    /// Does one unit of a mutator whose next operation is this one.
+    #[inline(always)]
+    fn unit_of(&mut self, op: Op)
+        requires { IsNextOf self.old.pass.actor op }
+        ensures pass { IsSameStation self.old self.new }
+        ensures stays { StaysPassOf self.old self.new }
+        ensures unit { (olds : List ℕ) × (length olds ≤ any_machine.left self.old.pass.actor) × Turned any_machine self.old.pass olds self.new.pass }
+    {
+        self.pass.carry_out_at(self.shared.table(), op);
     }
 
     /// Does one unit of the actor, out of line: so what orders an operation is small enough to be inlined where the operation is known.

@@ -5,14 +5,16 @@ use lxr_graph::Reply;
 use lxr_large_model::LargeReply;
 use std::rt::HostRuntime;
 
-/// A heap of two blocks, without a pace.
+/// A heap of two blocks, without a pace, all of which it may use.
 const SETTINGS: Settings = Settings {
-    size: 32,
+    size: 40,
     blocks: 2,
     body_blocks: 1,
     pace: 0,
     registers: 16,
     unused: 0,
+    room: 0,
+    grow: 0,
 };
 
 /// A new object with this word stands behind reference 0 of the world, and no register holds it.

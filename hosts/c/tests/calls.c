@@ -47,5 +47,7 @@ const struct calls calls_lxr = {
     .pause = lxr_pause,
     .collect = lxr_collect,
     .set_pace = lxr_set_pace,
+    .set_room = lxr_set_room,
+    .set_grow = lxr_set_grow,
     .count = lxr_count,
 };

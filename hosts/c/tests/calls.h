@@ -50,6 +50,8 @@ struct calls {
     lxr_code (*pause)(lxr_heap *);
     lxr_code (*collect)(lxr_heap *);
     lxr_code (*set_pace)(lxr_heap *, uint64_t);
+    lxr_code (*set_room)(lxr_heap *, uint32_t);
+    lxr_code (*set_grow)(lxr_heap *, uint32_t);
     lxr_code (*count)(const lxr_heap *, uint32_t, uint64_t *);
 };
 

@@ -17,6 +17,9 @@
 /* The bytes of settings of version 0.2, which end before the registers. */
 #define FIRST 24
 
+/* Of those that end before the room. */
+#define SECOND 32
+
 static unsigned long checks;
 
 static void check(uint64_t found, uint64_t wanted, const char *what, int line) {
@@ -106,14 +109,17 @@ static void refuses_all(lxr_heap *heap) {
         REFUSED(lxr_pause(heap), LXR_E_NO_HEAP);
         REFUSED(lxr_collect(heap), LXR_E_NO_HEAP);
         REFUSED(lxr_set_pace(heap, n), LXR_E_NO_HEAP);
+        REFUSED(lxr_set_room(heap, n), LXR_E_NO_HEAP);
+        REFUSED(lxr_set_grow(heap, n), LXR_E_NO_HEAP);
         REFUSED(lxr_count(heap, n, &wide), LXR_E_NO_HEAP);
     }
 }
 
-/* Opens a heap without pauses but those that are asked for or needed. */
+/* Opens a heap without pauses but those that are asked for or needed, whose room stays all. */
 static lxr_code open_heap(lxr_heap *heap, uint32_t of_blocks, uint32_t of_bodies) {
     lxr_settings settings = LXR_SETTINGS(of_blocks, of_bodies);
     settings.pace = LXR_PACE_NEVER;
+    settings.grow = 0;
     settings.registers = many_registers;
     return lxr_open(heap, &settings);
 }
@@ -121,7 +127,8 @@ static lxr_code open_heap(lxr_heap *heap, uint32_t of_blocks, uint32_t of_bodies
 /* Settings of another size than there is are refused, whatever else they have. */
 static void refuses_sizes_of_settings(lxr_heap *heap) {
     static const uint64_t wrong[] = {
-        0, 1, 8, FIRST - 8, FIRST - 1, FIRST + 1, sizeof(lxr_settings) - 1, sizeof(lxr_settings) + 1, 1u << 31, UINT64_MAX
+        0,        1,         8, FIRST - 8, FIRST - 1, FIRST + 1, SECOND - 1, SECOND + 1, sizeof(lxr_settings) - 1, sizeof(lxr_settings) + 1,
+        1u << 31, UINT64_MAX
     };
     for (size_t at = 0; at < sizeof wrong / sizeof *wrong; at++) {
         lxr_settings settings = LXR_SETTINGS(1, 1);
@@ -148,6 +155,20 @@ static void refuses_numbers_of_registers(lxr_heap *heap) {
     for (size_t at = 0; at < sizeof wrong / sizeof *wrong; at++) {
         lxr_settings settings = LXR_SETTINGS(1, 1);
         settings.registers = wrong[at];
+        REFUSED(lxr_open(heap, &settings), LXR_E_SIZE);
+        REFUSED(lxr_close(heap), LXR_E_NO_HEAP);
+    }
+}
+
+/* So is one with room for more than it has, or with a growth that there isn't; settings that end before both say neither. */
+static void refuses_rooms(lxr_heap *heap) {
+    static const uint32_t wrong[] = { 10, 1u << 16, 1u << 31, LAST }, growths[] = { LXR_MOST_GROW + 1, 1u << 16, 1u << 31, LAST };
+    for (size_t at = 0; at < sizeof wrong / sizeof *wrong; at++) {
+        lxr_settings settings = LXR_SETTINGS(9, 1);
+        settings.room = wrong[at];
+        REFUSED(lxr_open(heap, &settings), LXR_E_SIZE);
+        settings.room = 9;
+        settings.grow = growths[at];
         REFUSED(lxr_open(heap, &settings), LXR_E_SIZE);
         REFUSED(lxr_close(heap), LXR_E_NO_HEAP);
     }
@@ -185,6 +206,13 @@ static void numbers_of_registers(void) {
     memcpy(first, &settings, FIRST);
     opens_with_registers(first, LXR_REGISTERS);
     free(first);
+    void *second = malloc(SECOND);
+    if (!second) exit(5);
+    settings.size = SECOND;
+    settings.registers = 64;
+    memcpy(second, &settings, SECOND);
+    opens_with_registers(second, 64);
+    free(second);
 }
 
 /* Whether a heap is as it is opened. */
@@ -218,6 +246,7 @@ static void handles(void) {
     refuses_sizes_of_settings(&heap);
     refuses_sizes_of_heaps(&heap);
     refuses_numbers_of_registers(&heap);
+    refuses_rooms(&heap);
     IS(open_heap(&heap, 4, 2), LXR_OK);
     is_opened(&heap);
     REFUSED(open_heap(&heap, 4, 2), LXR_E_IN_USE);
@@ -884,6 +913,140 @@ static void paces(void) {
     IS(lxr_close(&heap), LXR_OK);
 }
 
+/* A ring of so many objects of 1 KB, which nothing keeps: only a collecting pause reclaims it. */
+static void drop_ring(lxr_heap *heap, uint32_t count) {
+    IS(lxr_new(heap, 1, 2, 126), LXR_OK);
+    IS(lxr_move(heap, 2, 1), LXR_OK);
+    while (--count) {
+        IS(lxr_new(heap, 3, 2, 126), LXR_OK);
+        IS(lxr_store(heap, 3, 0, 2), LXR_OK);
+        IS(lxr_move(heap, 2, 3), LXR_OK);
+    }
+    IS(lxr_store(heap, 1, 0, 2), LXR_OK);
+    for (uint32_t at = 1; at < 4; at++) IS(lxr_nil(heap, at), LXR_OK);
+}
+
+/* The most blocks in use right after each of so many rings of 4 MB. */
+static uint64_t most_by_rings(lxr_heap *heap, uint32_t all, uint32_t rings) {
+    uint64_t most = 0;
+    while (rings--) {
+        drop_ring(heap, 4096);
+        uint64_t used = all - count_of(heap, LXR_COUNT_FREE_BLOCKS);
+        if (used > most) most = used;
+    }
+    return most;
+}
+
+/* What settings and calls say of the room, and what is refused. */
+static void says_of_rooms(void) {
+    lxr_heap heap = LXR_HEAP_INIT;
+    lxr_settings settings = LXR_SETTINGS(900, 1);
+    IS(settings.room, 0);
+    IS(settings.grow, 100);
+    IS(lxr_open(&heap, &settings), LXR_OK);
+    IS(count_of(&heap, LXR_COUNT_ROOM), 900);
+    REFUSED(lxr_set_room(&heap, 901), LXR_E_SIZE);
+    REFUSED(lxr_set_room(&heap, LAST), LXR_E_SIZE);
+    REFUSED(lxr_set_grow(&heap, LXR_MOST_GROW + 1), LXR_E_SIZE);
+    REFUSED(lxr_set_grow(&heap, LAST), LXR_E_SIZE);
+    IS(count_of(&heap, LXR_COUNT_ROOM), 900);
+    IS(lxr_set_room(&heap, 1), LXR_OK);
+    IS(count_of(&heap, LXR_COUNT_ROOM), 1);
+    IS(lxr_set_room(&heap, 900), LXR_OK);
+    IS(lxr_set_room(&heap, 899), LXR_OK);
+    IS(lxr_pause(&heap), LXR_OK);
+    IS(count_of(&heap, LXR_COUNT_ROOM), 899); /* a plain pause leaves it */
+    IS(lxr_collect(&heap), LXR_OK);
+    IS(count_of(&heap, LXR_COUNT_ROOM), 64);
+    IS(lxr_set_room(&heap, 0), LXR_OK);
+    IS(count_of(&heap, LXR_COUNT_ROOM), 900);
+    IS(lxr_set_grow(&heap, 0), LXR_OK);
+    IS(lxr_set_room(&heap, 3), LXR_OK);
+    IS(lxr_collect(&heap), LXR_OK);
+    IS(count_of(&heap, LXR_COUNT_ROOM), 3); /* nothing sets it but the host */
+    IS(lxr_set_grow(&heap, LXR_MOST_GROW), LXR_OK);
+    IS(lxr_close(&heap), LXR_OK);
+    settings.size = SECOND;
+    settings.room = settings.grow = LAST;
+    IS(lxr_open(&heap, &settings), LXR_OK);
+    IS(lxr_collect(&heap), LXR_OK);
+    IS(count_of(&heap, LXR_COUNT_ROOM), 900);
+    IS(lxr_close(&heap), LXR_OK);
+}
+
+/* Rings that are let go of stay within the room: as it is set, up and down, and as it grows by itself. By no room they take all that there is. */
+static void rooms(void) {
+    lxr_heap heap = LXR_HEAP_INIT;
+    lxr_settings settings = LXR_SETTINGS(3000, 1);
+    settings.room = 400;
+    settings.grow = 0;
+    IS(lxr_open(&heap, &settings), LXR_OK);
+    IS(most_by_rings(&heap, 3000, 40) <= 440, 1);
+    IS(lxr_set_room(&heap, 1200), LXR_OK);
+    uint64_t most = most_by_rings(&heap, 3000, 40);
+    IS(most > 1000 && most <= 1240, 1);
+    IS(lxr_set_room(&heap, 400), LXR_OK);
+    drop_ring(&heap, 4096);
+    IS(most_by_rings(&heap, 3000, 40) <= 440, 1);
+    IS(lxr_set_grow(&heap, 100), LXR_OK);
+    IS(lxr_collect(&heap), LXR_OK);
+    IS(count_of(&heap, LXR_COUNT_ROOM), 64);
+    IS(most_by_rings(&heap, 3000, 40) <= 500, 1);
+    IS(lxr_close(&heap), LXR_OK);
+    IS(lxr_open(&heap, &settings), LXR_OK);
+    IS(lxr_set_room(&heap, 0), LXR_OK);
+    IS(most_by_rings(&heap, 3000, 40) > 2800, 1);
+    IS(lxr_close(&heap), LXR_OK);
+}
+
+/* Pauses that the host asks for, one while each small ring is held, put off no collecting one: the room holds beside them. */
+static void rooms_beside_asked_pauses(void) {
+    lxr_heap heap = LXR_HEAP_INIT;
+    lxr_settings settings = LXR_SETTINGS(3000, 1);
+    settings.room = 400;
+    settings.grow = 0;
+    IS(lxr_open(&heap, &settings), LXR_OK);
+    uint64_t most = 0;
+    for (uint32_t rings = 20000; rings--;) {
+        IS(lxr_new(&heap, 1, 1, 126), LXR_OK);
+        IS(lxr_new(&heap, 2, 1, 126), LXR_OK);
+        IS(lxr_store(&heap, 1, 0, 2), LXR_OK);
+        IS(lxr_store(&heap, 2, 0, 1), LXR_OK);
+        IS(lxr_pause(&heap), LXR_OK);
+        IS(lxr_nil(&heap, 1), LXR_OK);
+        IS(lxr_nil(&heap, 2), LXR_OK);
+        uint64_t used = settings.blocks - count_of(&heap, LXR_COUNT_FREE_BLOCKS);
+        if (used > most) most = used;
+    }
+    IS(most > 400 && most <= 410, 1);
+    IS(lxr_close(&heap), LXR_OK);
+}
+
+/* Where more lives than there is room for nothing is refused before all that is reserved is full, and most pauses don't collect. */
+static void room_that_is_too_small(void) {
+    lxr_heap heap = LXR_HEAP_INIT;
+    lxr_settings settings = LXR_SETTINGS(300, 1);
+    settings.room = 1;
+    settings.grow = 0;
+    IS(lxr_open(&heap, &settings), LXR_OK);
+    lxr_code code = LXR_OK;
+    uint64_t made = 0, pauses = 0;
+    for (; (code = lxr_new(&heap, 2, 1, 126)) == LXR_OK; made++) {
+        IS(lxr_store(&heap, 2, 0, 1), LXR_OK);
+        IS(lxr_move(&heap, 1, 2), LXR_OK);
+    }
+    IS(code, LXR_E_FULL);
+    IS(made > 299 * 31, 1);
+    IS(count_of(&heap, LXR_COUNT_FREE_BLOCKS), 0);
+    pauses = count_of(&heap, LXR_COUNT_PAUSES);
+    IS(pauses < 200, 1);
+    IS(lxr_nil(&heap, 1), LXR_OK);
+    IS(lxr_nil(&heap, 2), LXR_OK);
+    IS(lxr_collect(&heap), LXR_OK);
+    IS(count_of(&heap, LXR_COUNT_LIVE), 0);
+    IS(lxr_close(&heap), LXR_OK);
+}
+
 /* The same by objects that are made with their fields, or by operations. */
 static void paces_of_several(void) {
     static const uint32_t sources[3] = { 1, 0, 15 };
@@ -958,6 +1121,10 @@ int main(void) {
     paces_of_several();
     logs();
     pace_of_a_newcomer();
+    says_of_rooms();
+    rooms();
+    rooms_beside_asked_pauses();
+    room_that_is_too_small();
     two_heaps();
     static const uint32_t numbers_there[] = { 16, 17, 64, 255, 256 };
     for (size_t at = 0; at < sizeof numbers_there / sizeof *numbers_there; at++) {

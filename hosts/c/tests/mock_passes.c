@@ -65,6 +65,7 @@ struct heap {
     lxr_passes_settings settings;
     bool within, lost, waited;
     uint64_t pauses, before, since, kind;
+    uint32_t used; /* blocks: some more after each pause, and one after a collecting one */
     void *epoch;
     struct object *world;
     struct pass passes[PASSES];
@@ -449,6 +450,8 @@ static bool pause_once(struct heap *heap, bool collect) {
     bool served = true;
     heap->kind = collect ? LXR_KIND_COLLECT : LXR_KIND_PLAIN;
     heap->pauses++;
+    heap->used = collect ? 1 : heap->used + 30;
+    if (heap->used > heap->settings.blocks) heap->used = heap->settings.blocks;
     for (size_t at = 0; at < PASSES; at++) {
         struct pass *pass = &heap->passes[at];
         pass->through = false;
@@ -494,12 +497,14 @@ lxr_code lxr_passes_pause(lxr_passes *handle) {
 lxr_code lxr_passes_count(const lxr_passes *handle, uint32_t what, uint64_t *number) {
     if (!handle->live) return LXR_E_NO_HEAP;
     const struct heap *heap = handle->block;
-    if (what > LXR_COUNT_SWEPT && what != LXR_COUNT_LAST_KIND && what != LXR_COUNT_ASKED) return LXR_E_WHAT;
+    if (what > LXR_COUNT_SWEPT && what != LXR_COUNT_FREE_BLOCKS && what != LXR_COUNT_LAST_KIND && what != LXR_COUNT_ASKED)
+        return LXR_E_WHAT;
     if (heap->within || heap->lost) return LXR_E_EPOCH;
     switch (what) {
     case LXR_COUNT_PAUSES: *number = heap->pauses - heap->before; break;
     case LXR_COUNT_LAST_KIND: *number = heap->kind; break;
     case LXR_COUNT_ASKED: *number = find_most(heap); break;
+    case LXR_COUNT_FREE_BLOCKS: *number = heap->settings.blocks - heap->used; break;
     default: *number = 0;
     }
     return LXR_OK;

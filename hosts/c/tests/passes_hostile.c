@@ -182,7 +182,7 @@ static void try_between(lxr_passes *heap, uint64_t pauses) {
     IS(lxr_station_leave(heap, LAST, &station), LXR_E_EPOCH);
     IS(station.live, 0);
     for (uint32_t what = 0; what < 20; what++) {
-        uint32_t known = what <= LXR_COUNT_SWEPT || what == LXR_COUNT_LAST_KIND || what == LXR_COUNT_ASKED;
+        uint32_t known = what <= LXR_COUNT_SWEPT || what == LXR_COUNT_FREE_BLOCKS || what == LXR_COUNT_LAST_KIND || what == LXR_COUNT_ASKED;
         IS(lxr_passes_count(heap, what, &wide), known ? LXR_OK : LXR_E_WHAT);
         if (what == LXR_COUNT_PAUSES) IS(wide, pauses);
         if (!known) is_untouched(__LINE__);

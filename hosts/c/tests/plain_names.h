@@ -40,4 +40,6 @@
 #define lxr_pause            plain_pause
 #define lxr_collect          plain_collect
 #define lxr_set_pace         plain_set_pace
+#define lxr_set_room         plain_set_room
+#define lxr_set_grow         plain_set_grow
 #define lxr_count            plain_count

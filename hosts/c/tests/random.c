@@ -28,7 +28,7 @@ static struct { uint64_t rounds, calls, full, pauses; } sums;
 /* A round: its two heaps, and the sizes of the archive's. */
 static struct {
     uint64_t seed, calls;
-    uint32_t blocks, body_blocks, registers;
+    uint32_t blocks, body_blocks, registers, grow;
     lxr_heap lxr, plain;
 } now;
 
@@ -243,16 +243,43 @@ static uint64_t some_pace(void) {
 
 static void call_pause(void) { agree("pause", calls_lxr.pause(&now.lxr), calls_plain.pause(&now.plain)); }
 
+/* Growth of the room: mostly some. */
+static uint32_t some_growth(void) { return one_in(4) ? 0 : one_in(8) ? below(20000) : below(400); }
+
+/* A collecting pause sets the room to what it leaves in use and so much more, where it grows. */
+static void agree_on_room(void) {
+    uint64_t room = 0, free_blocks = 0;
+    agree("count", calls_lxr.count(&now.lxr, LXR_COUNT_ROOM, &room), LXR_OK);
+    agree("count", calls_lxr.count(&now.lxr, LXR_COUNT_FREE_BLOCKS, &free_blocks), LXR_OK);
+    uint64_t used = now.blocks - free_blocks, wanted = used + used * now.grow / 100;
+    if (wanted < 64) wanted = 64;
+    if (wanted > now.blocks) wanted = now.blocks;
+    if (now.grow) agree("the room that a collecting pause leaves", room, wanted);
+}
+
 static void call_collect(void) {
     uint64_t on_lxr = 0, on_plain = 0;
     agree("collect", calls_lxr.collect(&now.lxr), calls_plain.collect(&now.plain));
     agree("count", calls_lxr.count(&now.lxr, LXR_COUNT_LIVE, &on_lxr), calls_plain.count(&now.plain, LXR_COUNT_LIVE, &on_plain));
     agree("the objects that are left", on_lxr, on_plain);
+    agree_on_room();
 }
 
 static void call_set_pace(void) {
     uint64_t bytes = some_pace();
     agree("set_pace", calls_lxr.set_pace(&now.lxr, bytes), calls_plain.set_pace(&now.plain, bytes));
+}
+
+static void call_set_room(void) {
+    uint32_t blocks = one_in(8) ? wild() : below(now.blocks + 2);
+    agree("set_room", calls_lxr.set_room(&now.lxr, blocks), calls_plain.set_room(&now.plain, blocks));
+}
+
+static void call_set_grow(void) {
+    uint32_t hundredths = some_growth();
+    lxr_code code = calls_lxr.set_grow(&now.lxr, hundredths);
+    agree("set_grow", code, calls_plain.set_grow(&now.plain, hundredths));
+    if (code == LXR_OK) now.grow = hundredths;
 }
 
 /* ---- Several at once ---- */
@@ -526,14 +553,19 @@ static const struct {
     void (*call)(void);
     uint32_t share;
 } kinds[] = {
-    { call_new, 200 },        { call_load, 200 },      { call_store, 250 },     { call_get, 80 },          { call_put, 80 },
-    { call_move, 40 },        { call_nil, 60 },        { call_same, 20 },       { call_big, 20 },          { call_bget, 20 },
-    { call_bput, 20 },        { call_bread, 10 },      { call_bwrite, 10 },     { call_new_with, 60 },     { call_get_many, 30 },
-    { call_put_many, 30 },    { call_load_many, 30 },  { call_store_many, 40 }, { call_apply, 30 },        { call_long_stores, 1 },
-    { call_pause, 4 },        { call_collect, 2 },     { call_set_pace, 1 },    { agree_on_registers, 2 }, { call_registers_in_use, 6 },
-    { call_array_new, 20 },   { call_words_new, 20 },  { call_length, 10 },     { call_array_load, 40 },   { call_array_store, 40 },
-    { call_array_fill, 6 },   { call_array_copy, 12 }, { call_words_get, 20 },  { call_words_put, 20 },    { call_words_read, 10 },
-    { call_words_write, 10 },
+    { call_new, 200 },       { call_load, 200 },        { call_store, 250 },
+    { call_get, 80 },        { call_put, 80 },          { call_move, 40 },
+    { call_nil, 60 },        { call_same, 20 },         { call_big, 20 },
+    { call_bget, 20 },       { call_bput, 20 },         { call_bread, 10 },
+    { call_bwrite, 10 },     { call_new_with, 60 },     { call_get_many, 30 },
+    { call_put_many, 30 },   { call_load_many, 30 },    { call_store_many, 40 },
+    { call_apply, 30 },      { call_long_stores, 1 },   { call_pause, 4 },
+    { call_collect, 2 },     { call_set_pace, 1 },      { call_set_room, 2 },
+    { call_set_grow, 1 },    { agree_on_registers, 2 }, { call_registers_in_use, 6 },
+    { call_array_new, 20 },  { call_words_new, 20 },    { call_length, 10 },
+    { call_array_load, 40 }, { call_array_store, 40 },  { call_array_fill, 6 },
+    { call_array_copy, 12 }, { call_words_get, 20 },    { call_words_put, 20 },
+    { call_words_read, 10 }, { call_words_write, 10 },
 };
 
 static void make_call(void) {
@@ -549,11 +581,13 @@ static void play_round(uint64_t seed) {
     uint64_t pauses = 0;
     now.seed = state = seed;
     now.calls = 0;
-    now.blocks = one_in(3) ? 1 + below(3) : 1 + below(64);
+    now.blocks = one_in(3) ? 1 + below(3) : one_in(4) ? 1 + below(3000) : 1 + below(64);
     now.body_blocks = one_in(3) ? 1 + below(6) : 1 + below(200);
     uint32_t calls = 1 + below(CALLS);
     lxr_settings settings = LXR_SETTINGS(now.blocks, now.body_blocks);
     settings.pace = some_pace();
+    settings.room = below(now.blocks + 1);
+    settings.grow = now.grow = below(400);
     settings.registers = registers[below(4)];
     now.registers = settings.registers ? settings.registers : LXR_REGISTERS;
     agree("open", calls_lxr.open(&now.lxr, &settings), calls_plain.open(&now.plain, &settings));

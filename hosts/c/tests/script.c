@@ -323,6 +323,7 @@ static void agree_at_the_end(struct host *host) {
 static void open_heap(lxr_heap *heap, uint32_t blocks, uint32_t bodies) {
     lxr_settings settings = LXR_SETTINGS(blocks, bodies);
     settings.pace = LXR_PACE_NEVER;
+    settings.grow = 0;
     if (lxr_open(heap, &settings) != LXR_OK) stop(5, "lxr: out of memory");
 }
 

@@ -18,6 +18,9 @@
 /* The bytes of settings of version 0.2. */
 #define FIRST 64
 
+/* Of those that end before the room. */
+#define SECOND 72
+
 /* The largest heap that is opened here: one of the archive's writes all its words as it is opened. */
 #ifdef MOCK_PASSES
 enum { LARGEST = 65536 };
@@ -98,7 +101,7 @@ static void refuse_all(lxr_mutator *mutator, lxr_code code) {
 /* Settings of another size than there is are refused, whatever else they have. */
 static void try_sizes(void) {
     const uint64_t all = sizeof(lxr_shared_heap_settings);
-    const uint64_t wrong[] = { 0, 8, FIRST - 8, FIRST - 1, FIRST + 1, all - 1, all + 1, all + 8, UINT64_MAX };
+    const uint64_t wrong[] = { 0, 8, FIRST - 8, FIRST - 1, FIRST + 1, SECOND - 1, SECOND + 1, all - 1, all + 1, all + 8, UINT64_MAX };
     for (size_t at = 0; at < sizeof wrong / sizeof wrong[0]; at++) {
         lxr_shared_heap *heap = NULL;
         lxr_shared_heap_settings settings = LXR_SHARED_HEAP_SETTINGS(8, 2);
@@ -124,6 +127,43 @@ static void try_first(void) {
     free(settings);
 }
 
+/* So are those that end before the room, which is all then. */
+static void try_second(void) {
+    lxr_shared_heap_settings wanted = LXR_SHARED_HEAP_SETTINGS(100, 2);
+    lxr_shared_heap *heap = NULL;
+    void *settings = malloc(SECOND);
+    IS(settings != NULL, 1);
+    wanted.size = SECOND;
+    memcpy(settings, &wanted, SECOND);
+    IS(lxr_shared_heap_open(&heap, settings), LXR_OK);
+    IS(lxr_shared_heap_count(heap, LXR_COUNT_ROOM, &wide), LXR_OK);
+    IS(wide, 100);
+    wide = UNTOUCHED;
+    IS(lxr_shared_heap_close(&heap), LXR_OK);
+    free(settings);
+}
+
+/* The room is set up to what is reserved, and its growth up to its bound. */
+static void try_rooms(void) {
+    lxr_shared_heap_settings settings = LXR_SHARED_HEAP_SETTINGS(100, 2);
+    lxr_shared_heap *heap = NULL;
+    IS(lxr_shared_heap_set_room(heap, 1), LXR_E_NO_HEAP);
+    IS(lxr_shared_heap_set_grow(heap, 1), LXR_E_NO_HEAP);
+    settings.room = 7;
+    IS(lxr_shared_heap_open(&heap, &settings), LXR_OK);
+    const uint32_t tried[] = { 0, 1, 99, 100, 101, 10000, 10001, 65536, LAST };
+    uint64_t wanted = 7;
+    for (size_t at = 0; at < sizeof tried / sizeof tried[0]; at++) {
+        IS(lxr_shared_heap_count(heap, LXR_COUNT_ROOM, &wide), LXR_OK);
+        IS(wide, wanted);
+        IS(lxr_shared_heap_set_room(heap, tried[at]), tried[at] <= 100 ? LXR_OK : LXR_E_SIZE);
+        IS(lxr_shared_heap_set_grow(heap, tried[at]), tried[at] <= LXR_MOST_GROW ? LXR_OK : LXR_E_SIZE);
+        if (tried[at] <= 100) wanted = tried[at] ? tried[at] : 100;
+    }
+    wide = UNTOUCHED;
+    IS(lxr_shared_heap_close(&heap), LXR_OK);
+}
+
 /* A heap is opened with these settings where they fit, and else refused. */
 static void try_open(const lxr_shared_heap_settings *settings, uint32_t fits) {
     lxr_shared_heap *heap = NULL;
@@ -142,13 +182,14 @@ static void try_settings(void) {
         { offsetof(lxr_shared_heap_settings, log), 1, 65536 },     { offsetof(lxr_shared_heap_settings, remember), 1, 1048576 },
         { offsetof(lxr_shared_heap_settings, evacuate), 0, 1 },    { offsetof(lxr_shared_heap_settings, every), 1, 1000000 },
         { offsetof(lxr_shared_heap_settings, trace), 1, 1000000 }, { offsetof(lxr_shared_heap_settings, within), 1, 1000000 },
+        { offsetof(lxr_shared_heap_settings, room), 0, 8 },        { offsetof(lxr_shared_heap_settings, grow), 0, 10000 },
     };
     for (size_t at = 0; at < sizeof ranges / sizeof ranges[0]; at++) {
         const uint32_t tried[] = { ranges[at].least - 1, ranges[at].least, ranges[at].most, ranges[at].most + 1, LAST };
         for (size_t it = 0; it < 5; it++) {
             lxr_shared_heap_settings settings = good;
             *(uint32_t *)(void *)((char *)&settings + ranges[at].field) = tried[it];
-            try_open(&settings, tried[it] >= ranges[at].least && tried[it] <= ranges[at].most);
+            try_open(&settings, tried[it] - ranges[at].least <= ranges[at].most - ranges[at].least);
         }
     }
 }
@@ -502,7 +543,8 @@ static void try_several(lxr_mutator *mutator) {
 
 static void try_counts(lxr_shared_heap *heap) {
     for (uint32_t what = 0; what < 20; what++) {
-        uint32_t known = what <= LXR_COUNT_SWEPT || (what >= LXR_COUNT_COLLECTING && what <= LXR_COUNT_LAST_KIND);
+        uint32_t known = what <= LXR_COUNT_SWEPT || what == LXR_COUNT_FREE_BLOCKS || what == LXR_COUNT_ROOM ||
+                         (what >= LXR_COUNT_COLLECTING && what <= LXR_COUNT_LAST_KIND);
         IS(lxr_shared_heap_count(heap, what, &wide), known ? LXR_OK : LXR_E_WHAT);
         if (!known) is_untouched(__LINE__);
         wide = UNTOUCHED;
@@ -574,6 +616,8 @@ int main(int words, char **unused) {
     try_null();
     try_sizes();
     try_first();
+    try_second();
+    try_rooms();
     try_settings();
     try_registers();
     try_blocks();

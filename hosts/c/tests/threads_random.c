@@ -57,7 +57,7 @@ struct player {
 static struct {
     uint64_t seed;
     lxr_shared_heap *heap;
-    uint32_t players, tokens, registers;
+    uint32_t blocks, players, tokens, registers;
     struct player player[LXR_MOST_MUTATORS];
 } now;
 
@@ -483,9 +483,19 @@ static void rest(struct player *player) {
     agree(player, "a wake awake", lxr_mutator_wake(player->mutator), LXR_E_AWAKE);
 }
 
+/* Sets the room, up or down, or how it grows. */
+static void set_room(struct player *player) {
+    if (one_in(player, 2)) {
+        done(player, "set_grow", lxr_shared_heap_set_grow(now.heap, one_in(player, 3) ? 0 : below(player, 300)));
+    } else {
+        done(player, "set_room", lxr_shared_heap_set_room(now.heap, below(player, now.blocks + 1)));
+    }
+}
+
 static void play_rarely(struct player *player) {
     player->pauses++;
-    switch (below(player, 8)) {
+    switch (below(player, 9)) {
+    case 5: set_room(player); break;
     case 0: done(player, "pause", lxr_mutator_pause(player->mutator)); break;
     case 1: done(player, "collect", lxr_mutator_collect(player->mutator)); break;
     case 2: nap(player); break;
@@ -615,6 +625,9 @@ static lxr_shared_heap_settings draw_settings(uint64_t *dice) {
     settings.trace = 1 + (uint32_t)draw(dice) % 8;
     settings.within = 1 + (uint32_t)draw(dice) % 4;
     settings.registers = draw_registers_of(dice);
+    settings.room = (uint32_t)draw(dice) % (blocks + 1);
+    settings.grow = draw(dice) % 3 ? (uint32_t)draw(dice) % 300 : 0;
+    now.blocks = blocks;
     return settings;
 }
 

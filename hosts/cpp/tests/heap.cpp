@@ -289,10 +289,27 @@ void full_heaps() {
     CHECK(heap.try_make(1023, 1023));
 }
 
+/// The room is set up to what is reserved, and by a collecting pause to twice what it leaves, but at least 64 blocks.
+void rooms() {
+    lxr::heap heap(200);
+    CHECK(heap.room() == 200);
+    heap.set_room(7);
+    CHECK(heap.room() == 7);
+    CHECK(throws(lxr::errc::size, [&] { heap.set_room(201); }));
+    CHECK(throws(lxr::errc::size, [&] { heap.set_grow(LXR_MOST_GROW + 1); }));
+    heap.collect();
+    CHECK(heap.room() == 64);
+    heap.set_grow(0);
+    heap.set_room(0);
+    heap.collect();
+    CHECK(heap.room() == 200);
+}
+
 }  // namespace
 
 int main() {
     try {
+        rooms();
         lists();
         roots();
         many_roots();

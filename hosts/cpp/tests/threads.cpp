@@ -224,6 +224,19 @@ void paces() {
     }
 }
 
+/// The room is set up to what is reserved, and by a collecting pause to twice what it leaves, but at least 64 blocks.
+void rooms() {
+    lxr::shared_heap heap(200, 1);
+    CHECK(heap.room() == 200);
+    heap.set_room(7);
+    CHECK(heap.room() == 7);
+    CHECK(throws(lxr::errc::size, [&] { heap.set_room(201); }));
+    CHECK(throws(lxr::errc::size, [&] { heap.set_grow(LXR_MOST_GROW + 1); }));
+    lxr::mutator self(heap);
+    self.collect();
+    CHECK(heap.room() == 64 && heap.free_blocks() >= 198);
+}
+
 /// By the header's settings an eighth of the blocks is evacuated at most, and at most 64; and any number up to an eighth will do.
 void evacuates() {
     for (const std::uint32_t blocks : {1U, 8U, 500U, 600U, 1500U}) {
@@ -333,6 +346,7 @@ int main() {
         comings_and_goings();
         errors();
         paces();
+        rooms();
         evacuates();
         registers();
         full_heaps();

@@ -387,6 +387,22 @@ impl Heap {
         sure(unsafe { raw::lxr_set_pace(&mut self.handle, pace.bytes()) });
     }
 
+    /// Sets how many blocks are in use before a pause that is due collects, from now on; 0 for all.
+    ///
+    /// # Errors
+    /// [`Error::Size`], where fewer are reserved.
+    pub fn set_room(&mut self, blocks: u32) -> Result<(), Error> {
+        done(unsafe { raw::lxr_set_room(&mut self.handle, blocks) })
+    }
+
+    /// Sets the hundredths more than what lives to which each collecting pause sets the room, from the next one on; 0 for never.
+    ///
+    /// # Errors
+    /// [`Error::Size`], above 10,000.
+    pub fn set_grow(&mut self, hundredths: u32) -> Result<(), Error> {
+        done(unsafe { raw::lxr_set_grow(&mut self.handle, hundredths) })
+    }
+
     /// How many there are of what is counted.
     pub fn count(&self, what: Count) -> u64 {
         let mut number = 0;

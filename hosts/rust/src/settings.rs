@@ -26,12 +26,17 @@ pub struct Settings {
     pub pace: Pace,
     /// Registers, 16 to 256; 0 for 16.
     pub registers: u32,
+    /// Blocks in use before a pause that is due collects, up to `blocks`; 0 for all.
+    pub room: u32,
+    /// Hundredths more than what lives to which each collecting pause sets the room, up to 10,000; 0 for never.
+    pub grow: u32,
 }
 
 impl Settings {
-    /// So many blocks for objects, one for bodies, plain pauses by the room there is, and sixteen registers.
+    /// So many blocks for objects, one for bodies, plain pauses by the room there is, sixteen registers, and room for all of the blocks, until
+    /// a collecting pause sets it to twice what lives.
     pub const fn new(blocks: u32) -> Settings {
-        Settings { blocks, body_blocks: 1, pace: Pace::Room, registers: raw::LXR_REGISTERS }
+        Settings { blocks, body_blocks: 1, pace: Pace::Room, registers: raw::LXR_REGISTERS, room: 0, grow: raw::LXR_GROW }
     }
 
     /// So many blocks for bodies.
@@ -52,9 +57,21 @@ impl Settings {
         self
     }
 
+    /// Such room.
+    pub const fn room(mut self, blocks: u32) -> Settings {
+        self.room = blocks;
+        self
+    }
+
+    /// So much growth of the room.
+    pub const fn grow(mut self, hundredths: u32) -> Settings {
+        self.grow = hundredths;
+        self
+    }
+
     pub(crate) fn raw(&self) -> raw::Settings {
-        let &Settings { blocks, body_blocks, pace, registers } = self;
-        raw::Settings { size: size_of::<raw::Settings>() as u64, blocks, body_blocks, pace: pace.bytes(), registers, unused: 0 }
+        let &Settings { blocks, body_blocks, pace, registers, room, grow } = self;
+        raw::Settings { size: size_of::<raw::Settings>() as u64, blocks, body_blocks, pace: pace.bytes(), registers, unused: 0, room, grow }
     }
 }
 
@@ -104,4 +121,6 @@ pub enum Count {
     FreeBlocks = raw::LXR_COUNT_FREE_BLOCKS,
     /// Bytes of the free blocks for bodies.
     FreeBodyBytes = raw::LXR_COUNT_FREE_BODY_BYTES,
+    /// Blocks of the room, as it was set last.
+    Room = raw::LXR_COUNT_ROOM,
 }

@@ -82,6 +82,10 @@ pub struct Settings {
     pub evacuate: u32,
     /// Registers of each mutator, 16 to 256; 0 for 16. What a pause takes grows with those in use alone.
     pub registers: u32,
+    /// Blocks in use before it collects, up to `blocks`; 0 for all.
+    pub room: u32,
+    /// Hundredths more than what is in use to which each collecting pause and end of a trace sets the room, up to 10,000; 0 for never.
+    pub grow: u32,
 }
 
 impl Settings {
@@ -100,6 +104,8 @@ impl Settings {
             pace: Pace::Room,
             evacuate,
             registers: raw::LXR_REGISTERS,
+            room: 0,
+            grow: raw::LXR_GROW,
         }
     }
 
@@ -157,13 +163,42 @@ impl Settings {
         self
     }
 
+    /// Such room.
+    pub const fn room(mut self, blocks: u32) -> Settings {
+        self.room = blocks;
+        self
+    }
+
+    /// So much growth of the room.
+    pub const fn grow(mut self, hundredths: u32) -> Settings {
+        self.grow = hundredths;
+        self
+    }
+
     fn raw(&self, watch: Option<&Watch>) -> raw::SharedSettings {
-        let &Settings { blocks, mutators, helpers, log, remember, every, trace, within, pace, evacuate, registers } = self;
+        let &Settings { blocks, mutators, helpers, log, remember, every, trace, within, pace, evacuate, registers, room, grow } = self;
         let pace = pace.bytes();
         let size = size_of::<raw::SharedSettings>() as u64;
         let with = watch.map_or(ptr::null_mut(), |watch| (watch as *const Watch).cast_mut().cast());
         let paused = watch.map(|_| tell_of_pause as extern "C" fn(*mut c_void, *const raw::PauseTimes));
-        raw::SharedSettings { size, blocks, mutators, helpers, log, remember, every, trace, within, paused, with, pace, evacuate, registers }
+        raw::SharedSettings {
+            size,
+            blocks,
+            mutators,
+            helpers,
+            log,
+            remember,
+            every,
+            trace,
+            within,
+            paused,
+            with,
+            pace,
+            evacuate,
+            registers,
+            room,
+            grow,
+        }
     }
 }
 
@@ -188,6 +223,10 @@ pub enum Count {
     Entered = raw::LXR_COUNT_ENTERED,
     /// Mutators that are in the heap, and rest now.
     Resting = raw::LXR_COUNT_RESTING,
+    /// Wholly free blocks, as the last pause left them.
+    FreeBlocks = raw::LXR_COUNT_FREE_BLOCKS,
+    /// Blocks of the room, as it was set last.
+    Room = raw::LXR_COUNT_ROOM,
 }
 
 /// What a pause was.
@@ -320,6 +359,24 @@ impl SharedHeap {
         let code = unsafe { raw::lxr_shared_heap_count(self.handle.as_ptr(), what, &mut number) };
         debug_assert_eq!(done(code), Ok(()));
         number
+    }
+
+    /// Sets how many blocks are in use before it collects, from the next pause on; 0 for all.
+    ///
+    /// # Errors
+    /// [`Error::Size`], where fewer are reserved.
+    pub fn set_room(&self, blocks: u32) -> Result<(), Error> {
+        // SAFETY: the heap is open.
+        done(unsafe { raw::lxr_shared_heap_set_room(self.handle.as_ptr(), blocks) })
+    }
+
+    /// Sets the hundredths more than what is in use to which each collecting pause and end of a trace sets the room; 0 for never.
+    ///
+    /// # Errors
+    /// [`Error::Size`], above 10,000.
+    pub fn set_grow(&self, hundredths: u32) -> Result<(), Error> {
+        // SAFETY: the heap is open.
+        done(unsafe { raw::lxr_shared_heap_set_grow(self.handle.as_ptr(), hundredths) })
     }
 }
 

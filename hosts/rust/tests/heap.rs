@@ -260,6 +260,21 @@ fn pauses_come_after_so_many_objects() -> Result<(), Error> {
 }
 
 #[test]
+fn rooms_are_set_and_grow() -> Result<(), Error> {
+    let mut heap = Heap::open(&Settings::new(200).room(7))?;
+    assert_eq!(heap.count(Count::Room), 7);
+    assert_eq!((heap.set_room(201), heap.set_grow(10_001)), (Err(Error::Size), Err(Error::Size)));
+    heap.collect();
+    assert_eq!(heap.count(Count::Room), 64);
+    heap.set_grow(0)?;
+    heap.set_room(0)?;
+    heap.collect();
+    assert_eq!(heap.count(Count::Room), 200);
+    assert_eq!(Heap::open(&Settings::new(200).grow(10_001)).err(), Some(Error::Size));
+    Ok(())
+}
+
+#[test]
 fn heaps_are_apart() -> Result<(), Error> {
     let (mut left, right) = (Heap::open(&Settings::new(1))?, Heap::open(&Settings::new(1))?);
     left.make(R1, 0, 1)?;

@@ -159,6 +159,17 @@ fn plain_pauses_come_by_the_pace() -> Result<(), Error> {
 }
 
 #[test]
+fn rooms_are_set_and_grow() -> Result<(), Error> {
+    let heap = SharedHeap::open(&Settings::new(200, 1).room(7))?;
+    assert_eq!(heap.count(Count::Room), 7);
+    assert_eq!((heap.set_room(201), heap.set_grow(10_001)), (Err(Error::Size), Err(Error::Size)));
+    heap.enter()?.collect()?;
+    assert_eq!(heap.count(Count::Room), 64);
+    assert!(heap.count(Count::FreeBlocks) >= 198);
+    Ok(())
+}
+
+#[test]
 fn mutators_have_as_many_registers_as_the_settings_say() -> Result<(), Error> {
     assert_eq!(Settings::new(8, 2).registers, 16);
     for many in [16, 17, 64, 256] {

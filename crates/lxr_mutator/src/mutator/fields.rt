@@ -24,14 +24,14 @@ impl Mutator {
         ensures { self.new ≡ next_in self.old (MutatorPhase.Base base) header }
     {
         let Some(shape) = self.shape_at(base, header) else {
-            self.reply(Reply::Bad);
+            self.reply_seldom(Reply::Bad);
             return;
         };
         let op = self.op();
         if index_of(op) < indexed_fields(op, shape) {
             self.go_to_field(base, shape, op);
         } else {
-            self.reply(Reply::Range);
+            self.reply_seldom(Reply::Range);
         }
     }
 
@@ -97,7 +97,7 @@ impl Mutator {
         ensures { self.new ≡ (if nat_le reference (MOST_GRANULES) then loaded self.old (place_in reference) else done_with self.old Reply.Bad) }
     {
         if reference > u64::from(MOST_GRANULES) {
-            self.reply(Reply::Bad);
+            self.reply_seldom(Reply::Bad);
             return;
         }
         let place = Place(reference as u32);
@@ -120,7 +120,7 @@ impl Mutator {
     {
         match unpack(header) {
             Header::Object(name, _) => self.reply(found_reply(self.op(), Some(name))),
-            Header::Moved(_) => self.reply(Reply::Bad),
+            Header::Moved(_) => self.reply_seldom(Reply::Bad),
         }
     }
 

@@ -1,17 +1,21 @@
 //! Units straight through: from each step the code goes on to what can follow it, and asks for no phase that it knows.
 //!
 //! Each step is the one that `next` tells, and what was found is taken by the stage that `take` would call. Lines are drawn
-//! seldom, and by the general way.
+//! seldom, and by the general way. Where the caller knows the operation, so does each stage, which says it again once its word was
+//! loaded: no stage asks memory which operation it is.
 ghost use Rattle.std.specs.Prelude.{◌≡◌, ℕ};
 ghost use Rattle.lxr_layout.specs.declared.Place.{Place};
+ghost use Rattle.lxr_graph.specs.declared.Op.TheVariants as op;
 ghost use Rattle.lxr_actor.specs.Steps.{Does, DoesUnit, Finishes};
 ghost use Rattle.lxr_barrier.specs.Storing.{Storing};
+ghost use Rattle.lxr_mutator.specs.Mutating.{op_now};
 ghost use Rattle.lxr_mutator.specs.Steps.{mutator_machine};
-ghost use Rattle.lxr_mutator.specs.Mutators.{IsBusy, IsMutator};
+ghost use Rattle.lxr_mutator.specs.Mutators.{IsAskedIn, IsBusy, IsMutator};
 
 use super::Mutator;
 use crate::phases::MutatorPhase;
 use lxr_actor::{Actor, Steps, do_unit, finish_unit};
+use lxr_graph::Op;
 use lxr_layout::Place;
 
 impl Mutator {
@@ -22,43 +26,284 @@ impl Mutator {
         ensures unit { DoesUnit mutator_machine S.did self.old steps.old self.new steps.new }
         ensures holds { S.holds table.now steps.new self.new }
     {
+        self.do_unit_of(self.op(), steps, table);
+    }
+
+    /// The same of the operation whose turn it is, which the caller tells: where that is known, this is one call of code that is made for it
+    /// alone.
+    #[inline(always)]
+    pub fn do_unit_of<T, S: Steps<Mutator, T>>(&mut self, op: Op, steps: &mut S, table: &T)
+        requires op { op ≡ op_now self.old }
+        requires holds { S.holds table.now steps.old self.old }
+        ensures unit { DoesUnit mutator_machine S.did self.old steps.old self.new steps.new }
+        ensures holds { S.holds table.now steps.new self.new }
+    {
+        match op {
+            Op::Move { dest, source } => self.do_move(dest, source, steps, table),
+            Op::Nil { dest } => self.do_nil(dest, steps, table),
+            Op::Same { left, right } => self.do_same(left, right, steps, table),
+            Op::Get { base, index } => self.do_get(base, index, steps, table),
+            Op::Put { base, index, value } => self.do_put(base, index, value, steps, table),
+            Op::Add { base, index, value } => self.do_add(base, index, value, steps, table),
+            Op::Load { dest, base, index } => self.do_load(dest, base, index, steps, table),
+            _ => self.do_any(op, steps, table),
+        }
+    }
+
+    /// One unit of any operation.
+    #[inline(never)]
+    fn do_any<T, S: Steps<Mutator, T>>(&mut self, op: Op, steps: &mut S, table: &T)
+        requires op { op ≡ op_now self.old }
+        requires holds { S.holds table.now steps.old self.old }
+        ensures unit { DoesUnit mutator_machine S.did self.old steps.old self.new steps.new }
+        ensures holds { S.holds table.now steps.new self.new }
+    {
         if let MutatorPhase::Ready = self.phase {
-            self.load_pause_word(steps, table);
-            self.operate(steps, table);
+            self.load_pause_word(op, steps, table);
+            self.operate(op, steps, table);
         } else {
             self.do_unit_by_phases(steps, table);
         }
     }
 
-    /// Does what is left of the unit, once the pause word was loaded.
+    /// One unit of a `move`.
+    #[inline(never)]
+    fn do_move<T, S: Steps<Mutator, T>>(&mut self, dest: u8, source: u8, steps: &mut S, table: &T)
+        requires op { op.Move dest source ≡ op_now self.old }
+        requires holds { S.holds table.now steps.old self.old }
+        ensures unit { DoesUnit mutator_machine S.did self.old steps.old self.new steps.new }
+        ensures holds { S.holds table.now steps.new self.new }
+    {
+        self.do_in_registers(Op::Move { dest, source }, steps, table);
+    }
+
+    /// One unit of a `nil`.
+    #[inline(never)]
+    fn do_nil<T, S: Steps<Mutator, T>>(&mut self, dest: u8, steps: &mut S, table: &T)
+        requires op { op.Nil dest ≡ op_now self.old }
+        requires holds { S.holds table.now steps.old self.old }
+        ensures unit { DoesUnit mutator_machine S.did self.old steps.old self.new steps.new }
+        ensures holds { S.holds table.now steps.new self.new }
+    {
+        self.do_in_registers(Op::Nil { dest }, steps, table);
+    }
+
+    /// One unit of a `same`.
+    #[inline(never)]
+    fn do_same<T, S: Steps<Mutator, T>>(&mut self, left: u8, right: u8, steps: &mut S, table: &T)
+        requires op { op.Same left right ≡ op_now self.old }
+        requires holds { S.holds table.now steps.old self.old }
+        ensures unit { DoesUnit mutator_machine S.did self.old steps.old self.new steps.new }
+        ensures holds { S.holds table.now steps.new self.new }
+    {
+        self.do_in_registers(Op::Same { left, right }, steps, table);
+    }
+
+    /// One unit of an operation that may be done by its first step.
     #[inline(always)]
-    fn operate<T, S: Steps<Mutator, T>>(&mut self, steps: &mut S, table: &T)
+    fn do_in_registers<T, S: Steps<Mutator, T>>(&mut self, op: Op, steps: &mut S, table: &T)
+        requires op { op ≡ op_now self.old }
+        requires holds { S.holds table.now steps.old self.old }
+        ensures unit { DoesUnit mutator_machine S.did self.old steps.old self.new steps.new }
+        ensures holds { S.holds table.now steps.new self.new }
+    {
+        if let MutatorPhase::Ready = self.phase {
+            self.load_pause_word(op, steps, table);
+            self.finish(steps, table);
+        } else {
+            self.do_unit_by_phases(steps, table);
+        }
+    }
+
+    /// One unit of a `get`.
+    #[inline(never)]
+    fn do_get<T, S: Steps<Mutator, T>>(&mut self, base: u8, index: u16, steps: &mut S, table: &T)
+        requires op { op.Get base index ≡ op_now self.old }
+        requires holds { S.holds table.now steps.old self.old }
+        ensures unit { DoesUnit mutator_machine S.did self.old steps.old self.new steps.new }
+        ensures holds { S.holds table.now steps.new self.new }
+    {
+        self.do_on_datum(Op::Get { base, index }, steps, table);
+    }
+
+    /// One unit of a `put`.
+    #[inline(never)]
+    fn do_put<T, S: Steps<Mutator, T>>(
+        &mut self,
+        base: u8,
+        index: u16,
+        value: u64,
+        steps: &mut S,
+        table: &T,
+    )
+        requires op { op.Put base index value ≡ op_now self.old }
+        requires holds { S.holds table.now steps.old self.old }
+        ensures unit { DoesUnit mutator_machine S.did self.old steps.old self.new steps.new }
+        ensures holds { S.holds table.now steps.new self.new }
+    {
+        self.do_on_datum(Op::Put { base, index, value }, steps, table);
+    }
+
+    /// One unit of an `add`.
+    #[inline(never)]
+    fn do_add<T, S: Steps<Mutator, T>>(
+        &mut self,
+        base: u8,
+        index: u16,
+        value: u64,
+        steps: &mut S,
+        table: &T,
+    )
+        requires op { op.Add base index value ≡ op_now self.old }
+        requires holds { S.holds table.now steps.old self.old }
+        ensures unit { DoesUnit mutator_machine S.did self.old steps.old self.new steps.new }
+        ensures holds { S.holds table.now steps.new self.new }
+    {
+        self.do_on_datum(Op::Add { base, index, value }, steps, table);
+    }
+
+    /// One unit of a `load`.
+    #[inline(never)]
+    fn do_load<T, S: Steps<Mutator, T>>(
+        &mut self,
+        dest: u8,
+        base: u8,
+        index: u16,
+        steps: &mut S,
+        table: &T,
+    )
+        requires op { op.Load dest base index ≡ op_now self.old }
+        requires holds { S.holds table.now steps.old self.old }
+        ensures unit { DoesUnit mutator_machine S.did self.old steps.old self.new steps.new }
+        ensures holds { S.holds table.now steps.new self.new }
+    {
+        self.do_on_reference(Op::Load { dest, base, index }, steps, table);
+    }
+
+    /// One unit of an operation on a data word.
+    #[inline(always)]
+    fn do_on_datum<T, S: Steps<Mutator, T>>(&mut self, op: Op, steps: &mut S, table: &T)
+        requires op { op ≡ op_now self.old }
+        requires holds { S.holds table.now steps.old self.old }
+        ensures unit { DoesUnit mutator_machine S.did self.old steps.old self.new steps.new }
+        ensures holds { S.holds table.now steps.new self.new }
+    {
+        if let MutatorPhase::Ready = self.phase {
+            self.load_pause_word(op, steps, table);
+            self.reach_datum(op, steps, table);
+        } else {
+            self.do_unit_by_phases(steps, table);
+        }
+    }
+
+    /// Does what is left of it, once the pause word was loaded.
+    #[inline(always)]
+    fn reach_datum<T, S: Steps<Mutator, T>>(&mut self, op: Op, steps: &mut S, table: &T)
+        requires op { IsAskedIn self.old.phase op (op_now self.old) }
         requires holds { S.holds table.now steps.old self.old }
         ensures rest { Finishes mutator_machine S.did self.old steps.old self.new steps.new }
         ensures holds { S.holds table.now steps.new self.new }
     {
         match self.phase {
             MutatorPhase::Base { base } => {
-                self.load_header(base, steps, table);
-                self.access(steps, table);
+                self.load_header(op, base, steps, table);
+                self.access_datum(steps, table);
             }
-            MutatorPhase::Wiping { .. } => self.make_object(steps, table),
+            _ => self.finish(steps, table),
+        }
+    }
+
+    /// One unit of an operation on a reference that it loads.
+    #[inline(always)]
+    fn do_on_reference<T, S: Steps<Mutator, T>>(&mut self, op: Op, steps: &mut S, table: &T)
+        requires op { op ≡ op_now self.old }
+        requires holds { S.holds table.now steps.old self.old }
+        ensures unit { DoesUnit mutator_machine S.did self.old steps.old self.new steps.new }
+        ensures holds { S.holds table.now steps.new self.new }
+    {
+        if let MutatorPhase::Ready = self.phase {
+            self.load_pause_word(op, steps, table);
+            self.reach_reference(op, steps, table);
+        } else {
+            self.do_unit_by_phases(steps, table);
+        }
+    }
+
+    /// Does what is left of it, once the pause word was loaded.
+    #[inline(always)]
+    fn reach_reference<T, S: Steps<Mutator, T>>(&mut self, op: Op, steps: &mut S, table: &T)
+        requires op { IsAskedIn self.old.phase op (op_now self.old) }
+        requires holds { S.holds table.now steps.old self.old }
+        ensures rest { Finishes mutator_machine S.did self.old steps.old self.new steps.new }
+        ensures holds { S.holds table.now steps.new self.new }
+    {
+        match self.phase {
+            MutatorPhase::Base { base } => {
+                self.load_header(op, base, steps, table);
+                self.access_reference(op, steps, table);
+            }
+            _ => self.finish(steps, table),
+        }
+    }
+
+    /// Does what is left of the unit, once the pause word was loaded.
+    #[inline(always)]
+    fn operate<T, S: Steps<Mutator, T>>(&mut self, op: Op, steps: &mut S, table: &T)
+        requires op { IsAskedIn self.old.phase op (op_now self.old) }
+        requires holds { S.holds table.now steps.old self.old }
+        ensures rest { Finishes mutator_machine S.did self.old steps.old self.new steps.new }
+        ensures holds { S.holds table.now steps.new self.new }
+    {
+        match self.phase {
+            MutatorPhase::Base { base } => {
+                self.load_header(op, base, steps, table);
+                self.access(op, steps, table);
+            }
+            MutatorPhase::Wiping { .. } => self.make_object(op, steps, table),
             _ => self.finish(steps, table),
         }
     }
 
     /// Does what is left of an operation on a field, once the header of its base was loaded.
     #[inline(always)]
-    fn access<T, S: Steps<Mutator, T>>(&mut self, steps: &mut S, table: &T)
+    fn access<T, S: Steps<Mutator, T>>(&mut self, op: Op, steps: &mut S, table: &T)
+        requires op { IsAskedIn self.old.phase op (op_now self.old) }
+        requires holds { S.holds table.now steps.old self.old }
+        ensures rest { Finishes mutator_machine S.did self.old steps.old self.new steps.new }
+        ensures holds { S.holds table.now steps.new self.new }
+    {
+        match self.phase {
+            MutatorPhase::Reference { .. } => self.access_reference(op, steps, table),
+            MutatorPhase::Storing(_) => self.store(op, steps, table),
+            _ => self.access_datum(steps, table),
+        }
+    }
+
+    /// Does what is left of a `load`, once the header of its base was loaded.
+    #[inline(always)]
+    fn access_reference<T, S: Steps<Mutator, T>>(&mut self, op: Op, steps: &mut S, table: &T)
+        requires op { IsAskedIn self.old.phase op (op_now self.old) }
         requires holds { S.holds table.now steps.old self.old }
         ensures rest { Finishes mutator_machine S.did self.old steps.old self.new steps.new }
         ensures holds { S.holds table.now steps.new self.new }
     {
         match self.phase {
             MutatorPhase::Reference { base } => {
-                self.load_reference(base, steps, table);
-                self.tell_name(steps, table);
+                self.load_reference(op, base, steps, table);
+                self.tell_name(op, steps, table);
             }
+            _ => self.finish(steps, table),
+        }
+    }
+
+    /// Does what is left of a `get`, a `put` or an `add`, once the header of its base was loaded.
+    #[inline(always)]
+    fn access_datum<T, S: Steps<Mutator, T>>(&mut self, steps: &mut S, table: &T)
+        requires holds { S.holds table.now steps.old self.old }
+        ensures rest { Finishes mutator_machine S.did self.old steps.old self.new steps.new }
+        ensures holds { S.holds table.now steps.new self.new }
+    {
+        match self.phase {
             MutatorPhase::Datum { .. } => {
                 self.load_datum(steps, table);
                 self.finish(steps, table);
@@ -71,42 +316,79 @@ impl Mutator {
                 self.add_datum(steps, table);
                 self.finish(steps, table);
             }
-            _ => self.store(steps, table),
+            _ => self.finish(steps, table),
+        }
+    }
+
+    /// Does what is left of a `store` to a reference, or of a `swap`, as a call.
+    #[inline(never)]
+    fn store<T, S: Steps<Mutator, T>>(&mut self, op: Op, steps: &mut S, table: &T)
+        requires op { IsAskedIn self.old.phase op (op_now self.old) }
+        requires holds { S.holds table.now steps.old self.old }
+        ensures rest { Finishes mutator_machine S.did self.old steps.old self.new steps.new }
+        ensures holds { S.holds table.now steps.new self.new }
+    {
+        match self.phase {
+            MutatorPhase::Storing(_) => {
+                self.go_on_storing(op, steps, table);
+                self.store_after_look(op, steps, table);
+            }
+            _ => self.finish(steps, table),
+        }
+    }
+
+    /// Does what is left of a `store` to a reference, or of a `swap`, once the bit of its field was looked at.
+    #[inline(always)]
+    fn store_after_look<T, S: Steps<Mutator, T>>(&mut self, op: Op, steps: &mut S, table: &T)
+        requires op { IsAskedIn self.old.phase op (op_now self.old) }
+        requires holds { S.holds table.now steps.old self.old }
+        ensures rest { Finishes mutator_machine S.did self.old steps.old self.new steps.new }
+        ensures holds { S.holds table.now steps.new self.new }
+    {
+        match self.phase {
+            MutatorPhase::Storing(_) => {
+                self.go_on_storing(op, steps, table);
+                self.store_on(op, steps, table);
+            }
+            _ => self.finish(steps, table),
         }
     }
 
     /// Does what is left of a `load` or a `swap`, once the reference was loaded or swapped out.
     #[inline(always)]
-    fn tell_name<T, S: Steps<Mutator, T>>(&mut self, steps: &mut S, table: &T)
+    fn tell_name<T, S: Steps<Mutator, T>>(&mut self, op: Op, steps: &mut S, table: &T)
+        requires op { IsAskedIn self.old.phase op (op_now self.old) }
         requires holds { S.holds table.now steps.old self.old }
         ensures rest { Finishes mutator_machine S.did self.old steps.old self.new steps.new }
         ensures holds { S.holds table.now steps.new self.new }
     {
         match self.phase {
             MutatorPhase::Referent { place } => {
-                self.load_name(place, steps, table);
+                self.load_name(op, place, steps, table);
                 self.finish(steps, table);
             }
             _ => self.finish(steps, table),
         }
     }
 
-    /// Does what is left of a `store` to a reference, or of a `swap`.
+    /// Does what is left of a `store` to a reference, or of a `swap`, however many steps that is.
     #[inline(always)]
-    fn store<T, S: Steps<Mutator, T>>(&mut self, steps: &mut S, table: &T)
+    fn store_on<T, S: Steps<Mutator, T>>(&mut self, op: Op, steps: &mut S, table: &T)
+        requires op { IsAskedIn self.old.phase op (op_now self.old) }
         requires holds { S.holds table.now steps.old self.old }
         ensures rest { Finishes mutator_machine S.did self.old steps.old self.new steps.new }
         ensures holds { S.holds table.now steps.new self.new }
     {
         while let MutatorPhase::Storing(_) = self.phase {
-            self.go_on_storing(steps, table);
+            self.go_on_storing(op, steps, table);
         }
-        self.tell_name(steps, table);
+        self.tell_name(op, steps, table);
     }
 
     /// Makes an object in lines that it has: wipes its further words, and stores its header.
     #[inline(always)]
-    fn make_object<T, S: Steps<Mutator, T>>(&mut self, steps: &mut S, table: &T)
+    fn make_object<T, S: Steps<Mutator, T>>(&mut self, op: Op, steps: &mut S, table: &T)
+        requires op { IsAskedIn self.old.phase op (op_now self.old) }
         requires holds { S.holds table.now steps.old self.old }
         ensures rest { Finishes mutator_machine S.did self.old steps.old self.new steps.new }
         ensures holds { S.holds table.now steps.new self.new }
@@ -114,19 +396,20 @@ impl Mutator {
         while let MutatorPhase::Wiping { place, next } = self.phase {
             self.wipe_next(place, next, steps, table);
         }
-        self.hand_over(steps, table);
+        self.hand_over(op, steps, table);
     }
 
     /// Does what is left of a `new`, once the further words of its object were wiped.
     #[inline(always)]
-    fn hand_over<T, S: Steps<Mutator, T>>(&mut self, steps: &mut S, table: &T)
+    fn hand_over<T, S: Steps<Mutator, T>>(&mut self, op: Op, steps: &mut S, table: &T)
+        requires op { IsAskedIn self.old.phase op (op_now self.old) }
         requires holds { S.holds table.now steps.old self.old }
         ensures rest { Finishes mutator_machine S.did self.old steps.old self.new steps.new }
         ensures holds { S.holds table.now steps.new self.new }
     {
         match self.phase {
             MutatorPhase::Heading { place } => {
-                self.store_header(place, steps, table);
+                self.store_header(op, place, steps, table);
                 self.finish(steps, table);
             }
             _ => self.finish(steps, table),
@@ -167,49 +450,69 @@ impl Mutator {
 
     /// Loads the pause word.
     #[inline(always)]
-    fn load_pause_word<T, S: Steps<Mutator, T>>(&mut self, steps: &mut S, table: &T)
+    fn load_pause_word<T, S: Steps<Mutator, T>>(&mut self, op: Op, steps: &mut S, table: &T)
+        requires op { op ≡ op_now self.old }
         requires busy { (self.old.phase ≡ MutatorPhase.Ready) × IsMutator self.old }
         requires holds { S.holds table.now steps.old self.old }
         ensures step { Does mutator_machine S.did self.old steps.old self.new steps.new }
         ensures holds { S.holds table.now steps.new self.new }
     {
         let word = steps.step(table, self);
+        self.recall(op);
         self.look_at_pause_word(word);
     }
 
     /// Loads the header of the base.
     #[inline(always)]
-    fn load_header<T, S: Steps<Mutator, T>>(&mut self, base: Place, steps: &mut S, table: &T)
+    fn load_header<T, S: Steps<Mutator, T>>(
+        &mut self,
+        op: Op,
+        base: Place,
+        steps: &mut S,
+        table: &T,
+    )
+        requires op { op ≡ op_now self.old }
         requires busy { IsBusy self.old (MutatorPhase.Base base) }
         requires holds { S.holds table.now steps.old self.old }
         ensures step { Does mutator_machine S.did self.old steps.old self.new steps.new }
         ensures holds { S.holds table.now steps.new self.new }
     {
         let header = steps.step(table, self);
+        self.recall(op);
         self.reach_field(base, header);
     }
 
     /// Loads the reference that `load` asks for.
     #[inline(always)]
-    fn load_reference<T, S: Steps<Mutator, T>>(&mut self, base: Place, steps: &mut S, table: &T)
+    fn load_reference<T, S: Steps<Mutator, T>>(
+        &mut self,
+        op: Op,
+        base: Place,
+        steps: &mut S,
+        table: &T,
+    )
+        requires op { op ≡ op_now self.old }
         requires busy { IsBusy self.old (MutatorPhase.Reference base) }
         requires holds { S.holds table.now steps.old self.old }
         ensures step { Does mutator_machine S.did self.old steps.old self.new steps.new }
         ensures holds { S.holds table.now steps.new self.new }
     {
         let reference = steps.step(table, self);
+        self.recall(op);
         self.keep_reference(base, reference);
     }
 
     /// Loads the header of what was loaded or swapped out.
     #[inline(always)]
-    fn load_name<T, S: Steps<Mutator, T>>(&mut self, place: Place, steps: &mut S, table: &T)
+    fn load_name<T, S: Steps<Mutator, T>>(&mut self, op: Op, place: Place, steps: &mut S, table: &T)
+        requires op { op ≡ op_now self.old }
         requires busy { IsBusy self.old (MutatorPhase.Referent place) }
         requires holds { S.holds table.now steps.old self.old }
         ensures step { Does mutator_machine S.did self.old steps.old self.new steps.new }
         ensures holds { S.holds table.now steps.new self.new }
     {
         let header = steps.step(table, self);
+        self.recall(op);
         self.name_referent(place, header);
     }
 
@@ -251,13 +554,15 @@ impl Mutator {
 
     /// Does the next step of the store or swap in progress.
     #[inline(always)]
-    fn go_on_storing<T, S: Steps<Mutator, T>>(&mut self, steps: &mut S, table: &T)
+    fn go_on_storing<T, S: Steps<Mutator, T>>(&mut self, op: Op, steps: &mut S, table: &T)
+        requires op { op ≡ op_now self.old }
         requires busy { (store : Storing) × IsBusy self.old (MutatorPhase.Storing store) }
         requires holds { S.holds table.now steps.old self.old }
         ensures step { Does mutator_machine S.did self.old steps.old self.new steps.new }
         ensures holds { S.holds table.now steps.new self.new }
     {
         let old = steps.step(table, self);
+        self.recall(op);
         self.step_store(old);
     }
 
@@ -281,13 +586,22 @@ impl Mutator {
 
     /// Stores the header of the new object.
     #[inline(always)]
-    fn store_header<T, S: Steps<Mutator, T>>(&mut self, place: Place, steps: &mut S, table: &T)
+    fn store_header<T, S: Steps<Mutator, T>>(
+        &mut self,
+        op: Op,
+        place: Place,
+        steps: &mut S,
+        table: &T,
+    )
+        requires op { op ≡ op_now self.old }
         requires busy { IsBusy self.old (MutatorPhase.Heading place) }
         requires holds { S.holds table.now steps.old self.old }
         ensures step { Does mutator_machine S.did self.old steps.old self.new steps.new }
         ensures holds { S.holds table.now steps.new self.new }
     {
+        self.recall(op);
         steps.step(table, self);
+        self.recall(op);
         self.hand_out(place);
     }
 }

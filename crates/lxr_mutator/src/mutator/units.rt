@@ -51,6 +51,17 @@ impl Mutator {
         }
     }
 
+    /// The same with a reply that seldom comes, as a call: so what comes often is short enough to be inlined.
+    #[cold]
+    #[inline(never)]
+    pub(super) fn reply_seldom(&mut self, reply: Reply)
+        requires turn { self.old.phase ≢ MutatorPhase.Finished }
+        requires operation { length self.old.replies.items < length self.old.operations }
+        ensures { self.new ≡ done_with self.old reply }
+    {
+        self.reply(reply);
+    }
+
     /// Ends the unit without a reply.
     #[inline(always)]
     fn stop(&mut self, how: MutEnd)
@@ -72,6 +83,8 @@ impl Mutator {
     }
 
     /// The thread's end is done.
+    #[cold]
+    #[inline(never)]
     fn end_thread(&mut self)
         requires turn { self.old.phase ≢ MutatorPhase.Finished }
         ensures { self.new ≡ ended self.old }
@@ -189,7 +202,7 @@ impl Mutator {
         ensures { self.new ≡ based self.old base }
     {
         if base.0 == 0 {
-            self.reply(Reply::Bad);
+            self.reply_seldom(Reply::Bad);
         } else {
             self.go_on(MutatorPhase::Base { base });
         }

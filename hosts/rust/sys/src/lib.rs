@@ -52,6 +52,9 @@ pub const LXR_MOST_LENGTH: u32 = 524287;
 pub const LXR_PACE_NEVER: u64 = 0;
 pub const LXR_PACE_ROOM: u64 = u64::MAX;
 
+pub const LXR_GROW: u32 = 100;
+pub const LXR_MOST_GROW: u32 = 10000;
+
 pub const LXR_COUNT_PAUSES: u32 = 0;
 pub const LXR_COUNT_PROMOTED: u32 = 1;
 pub const LXR_COUNT_DEAD: u32 = 2;
@@ -61,6 +64,7 @@ pub const LXR_COUNT_LIVE: u32 = 5;
 pub const LXR_COUNT_FREE_BLOCKS: u32 = 6;
 pub const LXR_COUNT_FREE_BODY_BYTES: u32 = 7;
 pub const LXR_COUNT_LAST_KIND: u32 = 11;
+pub const LXR_COUNT_ROOM: u32 = 13;
 
 pub const LXR_OP_NEW: u32 = 0;
 pub const LXR_OP_LOAD: u32 = 1;
@@ -97,6 +101,8 @@ pub struct Settings {
     pub pace: u64,
     pub registers: u32,
     pub unused: u32,
+    pub room: u32,
+    pub grow: u32,
 }
 
 /// What `lxr_operation` is.
@@ -152,6 +158,8 @@ extern "C" {
     pub fn lxr_pause(heap: *mut Handle) -> Code;
     pub fn lxr_collect(heap: *mut Handle) -> Code;
     pub fn lxr_set_pace(heap: *mut Handle, bytes: u64) -> Code;
+    pub fn lxr_set_room(heap: *mut Handle, blocks: u32) -> Code;
+    pub fn lxr_set_grow(heap: *mut Handle, hundredths: u32) -> Code;
     pub fn lxr_count(heap: *const Handle, what: u32, number: *mut u64) -> Code;
 }
 
@@ -201,6 +209,8 @@ pub struct SharedSettings {
     pub pace: u64,
     pub evacuate: u32,
     pub registers: u32,
+    pub room: u32,
+    pub grow: u32,
 }
 
 /// What `lxr_pause_times` is.
@@ -216,6 +226,8 @@ extern "C" {
     pub fn lxr_shared_heap_open(heap: *mut *mut SharedHeap, settings: *const SharedSettings) -> Code;
     pub fn lxr_shared_heap_close(heap: *mut *mut SharedHeap) -> Code;
     pub fn lxr_shared_heap_count(heap: *const SharedHeap, what: u32, number: *mut u64) -> Code;
+    pub fn lxr_shared_heap_set_room(heap: *mut SharedHeap, blocks: u32) -> Code;
+    pub fn lxr_shared_heap_set_grow(heap: *mut SharedHeap, hundredths: u32) -> Code;
     pub fn lxr_mutator_enter(heap: *mut SharedHeap, mutator: *mut *mut Mutator) -> Code;
     pub fn lxr_mutator_leave(mutator: *mut *mut Mutator) -> Code;
     pub fn lxr_mutator_rest(mutator: *mut Mutator) -> Code;

@@ -1,16 +1,22 @@
-use Rattle.std.proofs.Common.{◌∙◌, refl, sym, length}
+use Rattle.std.proofs.Common.{◌∙◌, ap, arith, refl, subst, sym}
+use Rattle.std.specs.Prelude.{IsTrue}
 use Rattle.lxr_large_model.specs.History.{large_state}
-use Rattle.lxr_c_many.proofs.FieldLemmas.{references_there}
+use Rattle.lxr_c_many.specs.Fields.{found_reply, leave_base, load_of}
+use Rattle.lxr_c_many.specs.Following.{Follows, newest_first}
 use Rattle.lxr_c_many.proofs.references.load.Goals as goal
 
-pub returns-in-Done-clause-loads : goal.returns-in-Done-clause-loads
-returns-in-Done-clause-loads c = λ h is.
-    let done = sym c.in-Done.is ∙ c.find_references.ensures.found h is in
-    record {
-      reply = done;
-      unchanged = λ no. absurd (no refl);
-      follows = λ yes. c.load_all.ensures.follows h is (references_there (large_state h) c.args.base c.args.first (length c.args.targets.now) done);
-    }
+pub load_all-requires-clause-base : goal.load_all-requires-clause-base
+load_all-requires-clause-base c = let base = c.requires.base in let same = c.in-Ok.ensures.object.1 in omega (arith, base, same)
 
-pub returns-in_default-clause-loads : goal.returns-in_default-clause-loads
-returns-in_default-clause-loads c = λ h is. record { reply = c.find_references.ensures.found h is; unchanged = λ no. refl; follows = λ yes. absurd (c.in_default.not-Done yes) }
+pub load_all-requires-clause-apart : goal.load_all-requires-clause-apart
+load_all-requires-clause-apart c = subst (λ base. IsTrue (leave_base base c.args.targets.now)) (sym c.in-Ok.ensures.object.1) c.requires.apart
+
+pub returns-in-Ok-clause-loads : goal.returns-in-Ok-clause-loads
+returns-in-Ok-clause-loads c = λ h is. record {
+  reply = sym (ap found_reply c.in-Ok.is) ∙ c.find_references.ensures.found h is;
+  unchanged = λ no. absurd (no refl);
+  follows = λ yes. subst (λ base. Follows c.args.heap.now h c.load_all.new.heap (newest_first (load_of (large_state h) base) c.args.first c.args.targets.now)) c.in-Ok.ensures.object.1 (c.load_all.ensures.follows h is);
+}
+
+pub returns-in-Err-clause-loads : goal.returns-in-Err-clause-loads
+returns-in-Err-clause-loads c = λ h is. record { reply = sym (ap found_reply c.in-Err.is) ∙ c.find_references.ensures.found h is; unchanged = λ no. refl; follows = λ yes. absurd (c.in-Err.ensures.refused yes) }

@@ -1,8 +1,8 @@
-use Rattle.std.proofs.Common.{◌≡◌, ◌+◌, List, length}
-use Rattle.lxr_large_model.specs.History.{LargeItem, large_state}
+use Rattle.std.proofs.Common.{◌≡◌, ◌<◌, List, length}
+use Rattle.lxr_direct.specs.Known.{IsKnown}
+use Rattle.lxr_large_model.specs.History.{LargeItem}
 use Rattle.lxr_heap.specs.Holding.{IsHeapOf}
 use Rattle.lxr_c_heap.specs.Hosting.{IsServing, registers_in}
-use Rattle.lxr_c_many.specs.Steps.{HasReferences}
 use Rattle.lxr_c_many.proofs.LoadLemmas.{Loaded}
 use Rattle.lxr_c_many.proofs.references.load_all.Given as goal
 
@@ -10,5 +10,6 @@ abbrev pub invariant-loop-i : goal.invariant-loop-i
 invariant-loop-i l = record {
   serving : IsServing l.heap;
   registers : registers_in l.heap ≡ registers_in l.initial.heap;
-  loaded : (h : List LargeItem) → IsHeapOf l.initial.heap.heap h → HasReferences (large_state h) l.base (l.first + length l.targets) → Loaded l.initial.heap h l.base l.first l.targets l.i l.heap;
+  known : l.i < length l.targets → IsKnown l.heap.heap.space 1 l.object;
+  loaded : (h : List LargeItem) → IsHeapOf l.initial.heap.heap h → Loaded l.initial.heap h l.object.register l.first l.targets l.i l.heap;
 }

@@ -7,11 +7,11 @@ use Rattle.lxr_c_many.specs.Fields.{store_of}
 use Rattle.lxr_c_many.specs.Following.{Follows, newest_first}
 use Rattle.lxr_c_many.proofs.FollowLemmas.{follows_holds}
 use Rattle.lxr_c_many.proofs.LoadLemmas.{register_small}
-use Rattle.lxr_c_many.proofs.StoringLemmas.{next_stored, next_wants_none, stored_more, stored_none}
+use Rattle.lxr_c_many.proofs.StoringLemmas.{next_wants_none, stored_more, stored_none}
 use Rattle.lxr_c_many.proofs.references.store_all.Goals as goal
 
 pub loop-i-init : goal.loop-i-init
-loop-i-init c = record { serving = c.requires.serving; registers = refl; stored = λ h is may. stored_none c.args.heap.now h c.args.base c.args.first c.args.sources.now may }
+loop-i-init c = record { serving = c.requires.serving; registers = refl; known = c.requires.known; stored = λ h is may. stored_none c.args.heap.now h c.args.object.register c.args.first c.args.sources.now may }
 
 pub overflow_cast-source : goal.overflow_cast-source
 overflow_cast-source c =
@@ -26,17 +26,15 @@ store_at-requires-clause-registers c =
     let base = c.requires.base in
     (omega (arith, same, base), omega (arith, same, source))
 
+pub store_at-requires-clause-index : goal.store_at-requires-clause-index
+store_at-requires-clause-index c = let there = c.requires.there in omega (arith, there)
+
 pub store_at-requires-clause-ready : goal.store_at-requires-clause-ready
 store_at-requires-clause-ready c =
     let within : c.loop-i.i < length c.args.sources.now = omega arith in
     ∥∥₁_elim c.requires.ready ∥∥₁_prop (λ of.
     let (h, is, may) = of in
-    let before = c.loop-i.invariant.stored h is may in
-    ∣ (
-      _,
-      next_wants_none c.args.heap.now c.loop-i.heap h c.args.base c.args.first c.args.sources.now c.loop-i.i before within _ _ refl is,
-      next_stored c.args.heap.now c.loop-i.heap h c.args.base c.args.first c.args.sources.now c.loop-i.i before within _ refl,
-    ) ∣₁)
+    ∣ (_, next_wants_none c.args.heap.now c.loop-i.heap h c.args.object.register c.args.first c.args.sources.now c.loop-i.i (c.loop-i.invariant.stored h is may) within _ _ refl is) ∣₁)
 
 pub loop-i-preserved : goal.loop-i-preserved
 loop-i-preserved c =
@@ -45,14 +43,15 @@ loop-i-preserved c =
     record {
       serving = c.store_at.ensures.serving;
       registers = c.store_at.ensures.registers ∙ c.loop-i.invariant.registers;
+      known = c.store_at.ensures.known;
       stored = λ h is may.
           let before = c.loop-i.invariant.stored h is may in
-          let new = newest_first (store_of c.args.base) c.args.first (take c.loop-i.i c.args.sources.now) in
-          stored_more x c.loop-i.heap h c.args.base c.args.first c.args.sources.now c.loop-i.i before within c.store_at.new.heap _ refl
-          (c.store_at.ensures.stored (new ++ h) (follows_holds x c.loop-i.heap h new is before.follows) (next_stored x c.loop-i.heap h c.args.base c.args.first c.args.sources.now c.loop-i.i before within _ refl));
+          let new = newest_first (store_of c.args.object.register) c.args.first (take c.loop-i.i c.args.sources.now) in
+          stored_more x c.loop-i.heap h c.args.object.register c.args.first c.args.sources.now c.loop-i.i before within c.store_at.new.heap _ refl
+          (c.store_at.ensures.stored (new ++ h) (follows_holds x c.loop-i.heap h new is before.follows));
     }
 
 pub returns-clause-follows : goal.returns-clause-follows
 returns-clause-follows c = λ h is may.
     let stored = c.loop-i.invariant.stored h is may in
-    subst (λ ss. Follows c.args.heap.now h c.loop-i.heap (newest_first (store_of c.args.base) c.args.first ss)) (take_all c.loop-i.i c.args.sources.now (omega arith)) stored.follows
+    subst (λ ss. Follows c.args.heap.now h c.loop-i.heap (newest_first (store_of c.args.object.register) c.args.first ss)) (take_all c.loop-i.i c.args.sources.now (omega arith)) stored.follows

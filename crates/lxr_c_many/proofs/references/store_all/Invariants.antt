@@ -1,4 +1,5 @@
 use Rattle.std.proofs.Common.{◌≡◌, List, length}
+use Rattle.lxr_direct.specs.Known.{IsKnown}
 use Rattle.lxr_large_model.specs.History.{LargeItem}
 use Rattle.lxr_heap.specs.Holding.{IsHeapOf}
 use Rattle.lxr_c_heap.specs.Hosting.{IsServing, registers_in}
@@ -10,5 +11,6 @@ abbrev pub invariant-loop-i : goal.invariant-loop-i
 invariant-loop-i l = record {
   serving : IsServing l.heap;
   registers : registers_in l.heap ≡ registers_in l.initial.heap;
-  stored : (h : List LargeItem) → IsHeapOf l.initial.heap.heap h → MayBeStored h l.base l.first (length l.sources) → Stored l.initial.heap h l.base l.first l.sources l.i l.heap;
+  known : IsKnown l.heap.heap.space 1 l.object;
+  stored : (h : List LargeItem) → IsHeapOf l.initial.heap.heap h → MayBeStored h l.object.register l.first (length l.sources) → Stored l.initial.heap h l.object.register l.first l.sources l.i l.heap;
 }

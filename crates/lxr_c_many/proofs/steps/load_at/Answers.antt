@@ -1,18 +1,32 @@
+use Rattle.std.proofs.Common.{arith, refl}
 use Rattle.lxr_graph.specs.declared.Op.TheVariants as op
+use Rattle.lxr_graph.specs.declared.Reply.TheVariants as reply
 use Rattle.lxr_large_model.specs.declared.LargeOp.TheVariants as large_op
-use Rattle.lxr_c_heap.specs.Hosting.{all_registers_in, registers_in}
-use Rattle.lxr_c_heap.proofs.OperationLemmas.{quiet_more}
-use Rattle.lxr_c_heap.proofs.RegisterLemmas.{known, named_few, replied_keeps}
-use Rattle.lxr_c_many.proofs.StepLemmas.{load_done}
+use Rattle.lxr_large_model.specs.declared.LargeReply.TheVariants as large_reply
+use Rattle.lxr_large_model.specs.History.{large_state}
+use Rattle.lxr_c_many.specs.Fields.{reference_at}
+use Rattle.lxr_c_heap.proofs.RegisterLemmas.{named_few}
+use Rattle.lxr_c_many.proofs.StepLemmas.{no_bytes, replied_serves}
 use Rattle.lxr_c_many.proofs.steps.load_at.Goals as goal
 
-pub reply-requires-clause-op : goal.reply-requires-clause-op
-reply-requires-clause-op c =
-    let x = c.args.heap.now in
-    quiet_more (registers_in x) (all_registers_in x) (large_op.Small (op.Load c.args.dest c.args.base c.args.index)) (named_few x c.requires.serving.holds) (c.requires.registers, tt)
+pub load_from-requires-clause-dest : goal.load_from-requires-clause-dest
+load_from-requires-clause-dest c =
+    let few = named_few c.args.heap.now c.requires.serving.holds in
+    let named = c.requires.registers.0 in
+    omega (arith, few, named)
+
+pub load_from-requires-clause-register : goal.load_from-requires-clause-register
+load_from-requires-clause-register c =
+    let few = named_few c.args.heap.now c.requires.serving.holds in
+    let named = c.requires.registers.1 in
+    omega (arith, few, named)
 
 pub returns-clause-loaded : goal.returns-clause-loaded
-returns-clause-loaded c = λ h is has. load_done c.args.heap.now c.reply.new.self h c.args.dest c.args.base c.args.index c.reply.result has (c.reply.ensures.replies h is)
+returns-clause-loaded c = λ h is. record { heap = c.load_from.ensures.replied h is; rest = no_bytes c.args.heap.now c.load_from.new.self }
 
 pub returns-clause-registers : goal.returns-clause-registers
-returns-clause-registers c = known c.args.heap.now _ _ c.requires.serving.holds (λ h is. replied_keeps c.args.heap.now c.reply.new.self h _ c.reply.result (c.reply.ensures.replies h is.heap))
+returns-clause-registers c = refl
+
+pub returns-clause-serving : goal.returns-clause-serving
+returns-clause-serving c =
+    replied_serves c.args.heap.now c.load_from.new.self (large_op.Small (op.Load c.args.dest c.args.object.register c.args.index)) (λ h. large_reply.Small (reply.Loaded (reference_at (large_state h) c.args.object.register c.args.index))) (λ h. (refl, refl)) c.requires.serving c.load_from.ensures.replied

@@ -5,14 +5,15 @@ use Rattle.lxr_c_many.proofs.WordLemmas.{read_all, read_more, read_none}
 use Rattle.lxr_c_many.proofs.words.read_all.Goals as goal
 
 pub loop-i-init : goal.loop-i-init
-loop-i-init c = λ h is. read_none (large_state h) c.args.base c.args.first c.args.words.now
+loop-i-init c = λ h is has. read_none (large_state h) c.args.object.register c.args.first c.args.words.now
 
-pub word_at-requires-clause-there : goal.word_at-requires-clause-there
-word_at-requires-clause-there c = λ h is. fewer_words (large_state h) c.args.base (c.args.first + length c.args.words.now) _ (c.requires.there h is) (omega arith)
+pub word_at-requires-clause-index : goal.word_at-requires-clause-index
+word_at-requires-clause-index c = let there = c.requires.there in omega (arith, there)
 
 pub loop-i-preserved : goal.loop-i-preserved
-loop-i-preserved c = λ h is.
-    read_more (large_state h) c.args.base c.args.first c.args.words.now c.loop-i.i _ c.word_at.result c.loop-i.words (c.requires.there h is) (c.loop-i.invariant h is) (omega arith) refl (c.word_at.ensures h is)
+loop-i-preserved c = λ h is has.
+    read_more (large_state h) c.args.object.register c.args.first c.args.words.now c.loop-i.i _ c.word_at.result c.loop-i.words has (c.loop-i.invariant h is has) (omega arith) refl
+    (c.word_at.ensures h is (fewer_words (large_state h) c.args.object.register (c.args.first + length c.args.words.now) _ has (omega arith)))
 
 pub returns : goal.returns
-returns c = λ h is. read_all (large_state h) c.args.base c.args.first c.loop-i.i c.args.words.now c.loop-i.words (c.requires.there h is) (c.loop-i.invariant h is) (omega arith)
+returns c = λ h is has. read_all (large_state h) c.args.object.register c.args.first c.loop-i.i c.args.words.now c.loop-i.words has (c.loop-i.invariant h is has) (omega arith)

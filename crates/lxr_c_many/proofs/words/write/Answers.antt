@@ -1,16 +1,17 @@
-use Rattle.std.proofs.Common.{◌∙◌, refl, sym, length}
-use Rattle.lxr_large_model.specs.History.{large_state}
-use Rattle.lxr_c_many.proofs.FieldLemmas.{words_there}
+use Rattle.std.proofs.Common.{◌∙◌, ap, arith, refl, subst, sym}
+use Rattle.lxr_c_many.specs.Fields.{found_reply, put_of}
+use Rattle.lxr_c_many.specs.Following.{Follows, newest_first}
 use Rattle.lxr_c_many.proofs.words.write.Goals as goal
 
-pub returns-in-Done-clause-writes : goal.returns-in-Done-clause-writes
-returns-in-Done-clause-writes c = λ h is.
-    let done = sym c.in-Done.is ∙ c.find_words.ensures.found h is in
-    record {
-      reply = done;
-      unchanged = λ no. absurd (no refl);
-      follows = λ yes. c.write_all.ensures.follows h is (words_there (large_state h) c.args.base c.args.first (length c.args.words.now) done);
-    }
+pub write_all-requires-clause-base : goal.write_all-requires-clause-base
+write_all-requires-clause-base c = let base = c.requires.base in let same = c.in-Ok.ensures.object.1 in omega (arith, base, same)
 
-pub returns-in_default-clause-writes : goal.returns-in_default-clause-writes
-returns-in_default-clause-writes c = λ h is. record { reply = c.find_words.ensures.found h is; unchanged = λ no. refl; follows = λ yes. absurd (c.in_default.not-Done yes) }
+pub returns-in-Ok-clause-writes : goal.returns-in-Ok-clause-writes
+returns-in-Ok-clause-writes c = λ h is. record {
+  reply = sym (ap found_reply c.in-Ok.is) ∙ c.find_words.ensures.found h is;
+  unchanged = λ no. absurd (no refl);
+  follows = λ yes. subst (λ base. Follows c.args.heap.now h c.write_all.new.heap (newest_first (put_of base) c.args.first c.args.words.now)) c.in-Ok.ensures.object.1 (c.write_all.ensures.follows h is);
+}
+
+pub returns-in-Err-clause-writes : goal.returns-in-Err-clause-writes
+returns-in-Err-clause-writes c = λ h is. record { reply = sym (ap found_reply c.in-Err.is) ∙ c.find_words.ensures.found h is; unchanged = λ no. refl; follows = λ yes. absurd (c.in-Err.ensures.refused yes) }

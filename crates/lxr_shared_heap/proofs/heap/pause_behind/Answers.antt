@@ -14,7 +14,7 @@ use Rattle.lxr_shared_heap.specs.Renewing.{RenewsWhere, StandsIdle, is_renewal_d
 use Rattle.lxr_shared_heap.specs.Resting.{HasRested}
 use Rattle.lxr_shared_heap.specs.Settings.{run_of}
 use Rattle.lxr_shared_heap.proofs.DueLemmas.{due_told, due_tested}
-use Rattle.lxr_shared_heap.proofs.HeapLemmas.{idle_stands, newest_behind, renewed_many, stands_renewed, tells_none}
+use Rattle.lxr_shared_heap.proofs.HeapLemmas.{idle_stands, newest_behind, renewed_many, renewed_space, stands_renewed, tells_none}
 use Rattle.lxr_shared_heap.proofs.RecallLemmas.{unrenewed_behind}
 use Rattle.lxr_shared_heap.specs.Telling.{EndByNewest}
 use Rattle.lxr_shared_heap.proofs.TellingLemmas.{have_replied}
@@ -32,6 +32,25 @@ renew_where_due-requires g c =
       subst (λ xs. StandsIdle c.args.settings script c.rest.new.space xs rested.history rested.stands.0 (not c.some_waits-idle.result)) (sym c.deref_mut.ensures.value)
           (idle_stands c.args.settings script calls c.args.actors.items c.rest.new.space c.rest.new.actors.items rested ran.actors_rest.mutators c.requires.live c.some_waits-idle.result (c.some_waits-idle.ensures ∙ ap (list_any waits) c.deref.ensures.value)),
     )
+
+pub of-requires : goal.of-requires
+of-requires g c =
+    let (script, before, calls, m, ran) = c.requires.made in
+    let ended : c.rest.result ≡ true = cc in
+    let rested = subst (HasRested (run_of c.args.settings script) calls c.args.actors.items c.rest.new.space c.rest.new.actors.items) ended (c.rest.ensures.rests script before calls m ran) in
+    rested.stands.left.1.between.safepoint.holds.space
+
+pub of-requires-else-rest : goal.of-requires-else-rest
+of-requires-else-rest g c =
+    let (script, before, calls, m, ran) = c.requires.made in
+    let more : c.rest.result ≡ false = cc in
+    let rested = subst (HasRested (run_of c.args.settings script) calls c.args.actors.items c.rest.new.space c.rest.new.actors.items) more (c.rest.ensures.rests script before calls m ran) in
+    let idle = not c.some_waits-idle.result in
+    let space = c.rest.new.space in
+    let actors = c.rest.new.actors.items in
+    let stands = idle_stands c.args.settings script calls c.args.actors.items space actors rested ran.actors_rest.mutators c.requires.live c.some_waits-idle.result (c.some_waits-idle.ensures ∙ ap (list_any waits) c.deref.ensures.value) in
+    let renews = subst (λ xs. RenewsWhere (idle && is_renewal_due space xs) space xs idle c.renew_where_due.new.space c.renew_where_due.new.actors) c.deref_mut.ensures.value c.renew_where_due.ensures in
+    renewed_space (idle && is_renewal_due space actors) c.args.settings script rested.history rested.stands.0 space actors idle c.renew_where_due.new.space c.renew_where_due.new.actors stands renews
 
 pub returns-then-rest : goal.returns-then-rest
 returns-then-rest g c = λ script before calls m ran newest. (

@@ -1,7 +1,7 @@
-use Rattle.std.proofs.Common.{◌∙◌, arith, false, subst, sym}
+use Rattle.std.proofs.Common.{◌∙◌, arith, subst, sym}
 use Rattle.lxr_heap.specs.Acting.{MayBeCalled}
 use Rattle.lxr_c_heap.specs.declared.host.TheConstants.{ENDS}
-use Rattle.lxr_c_heap.specs.Hosting.{IsDue, all_registers_in}
+use Rattle.lxr_c_heap.specs.Hosting.{IsDue, all_registers_in, exceeds_room}
 use Rattle.lxr_c_heap.proofs.OperationLemmas.{making_may}
 use Rattle.lxr_c_heap.proofs.RegisterLemmas.{known, settled_all, where_all}
 use Rattle.lxr_c_heap.proofs.RoomLemmas.{paused_holds, settled_holds}
@@ -16,7 +16,7 @@ act-requires-clause-op c =
     let same = known x (all_registers_in c.pause_if_due.new.self) (all_registers_in x) c.requires.serving.holds (λ h is.
     let (k, settled) = c.settle.ensures.settled h is.heap in
     let (l, paused) = c.pause_if_due.ensures.pauses k (settled_holds ENDS x c.settle.new.self h k is settled) in
-    where_all (IsDue c.settle.new.self k) false c.settle.new.self c.pause_if_due.new.self k l paused ∙ settled_all ENDS x c.settle.new.self h k settled) in
+    where_all (IsDue c.settle.new.self k) (exceeds_room c.settle.new.self) c.settle.new.self c.pause_if_due.new.self k l paused ∙ settled_all ENDS x c.settle.new.self h k settled) in
     subst (λ n. MayBeCalled n c.args.op) (sym same) (making_may (all_registers_in x) c.args.op c.requires.op)
 
 pub returns-clause-makes : goal.returns-clause-makes
@@ -31,5 +31,5 @@ returns-clause-makes c = λ h is.
       paused = c.pause_if_due.new.self;
       paused_history = l;
       pauses = paused;
-      acts = c.act.ensures.acts l (paused_holds (IsDue c.settle.new.self k) false c.settle.new.self c.pause_if_due.new.self k l held paused).heap;
+      acts = c.act.ensures.acts l (paused_holds (IsDue c.settle.new.self k) (exceeds_room c.settle.new.self) c.settle.new.self c.pause_if_due.new.self k l held paused).heap;
     }

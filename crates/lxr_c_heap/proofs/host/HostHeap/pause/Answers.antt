@@ -1,8 +1,8 @@
-use Rattle.std.proofs.Common.{◌+◌, ◌%◌, ◌^◌, ap}
+use Rattle.lxr_c_heap.proofs.RoomLemmas.{paused_rest}
 use Rattle.lxr_c_heap.proofs.host.HostHeap.pause.Goals as goal
 
 pub returns : goal.returns
 returns c = λ h is. record {
   heap = c.pause.ensures.pauses h is;
-  rest = ap (λ l. record c.args.self.now { heap = c.pause.new.self; limit = l; bytes = 0; pauses = (c.args.self.now.pauses + 1) % 2 ^ 64 }) c.limit-self.ensures;
+  rest = paused_rest c.args.self.now c.pause.new.self c.args.collect c.free_blocks-free.result c.after-self.result c.due_after-self.result c.free_blocks-free.ensures c.after-self.ensures c.due_after-self.ensures;
 }

@@ -1,10 +1,5 @@
-use mathlib.Core.Logic.{∥∥₁_elim, ∥∥₁_prop}
+use Rattle.lxr_c_heap.proofs.RoomLemmas.{set_serves}
 use Rattle.lxr_c_heap.proofs.host.HostHeap.set_pace.Goals as goal
 
 pub returns-clause-serving : goal.returns-clause-serving
-returns-clause-serving c = record {
-  holds = ∥∥₁_elim c.requires.serving.holds ∥∥₁_prop (λ of. ∣ (of.0, record { heap = of.1.heap; bytes = of.1.bytes; named = of.1.named }) ∣₁);
-  made = c.requires.serving.made;
-  paused = c.requires.serving.paused;
-  bytes = c.requires.serving.bytes;
-}
+returns-clause-serving c = set_serves c.args.self.now c.args.pace c.args.self.now.room c.due_after-self.result c.requires.serving

@@ -1,9 +1,9 @@
-use Rattle.std.proofs.Common.{◌≡◌, List, replicate, ◌++◌, ◌-◌, ap, arith, subst, sym, ◌∙◌, ◌≤◌}
+use Rattle.std.proofs.Common.{◌≡◌, List, replicate, ◌++◌, ◌-◌, ap, arith, ◌∙◌}
 use Rattle.std.specs.Prelude.{drop}
 use Rattle.std.specs.Vec.{with_items}
 use Rattle.lxr_layout.specs.declared.TheConstants.{REGISTERS}
 use Rattle.lxr_layout.specs.declared.Place.{Place}
-use Rattle.lxr_layout.specs.Registers.{AreNil, nil}
+use Rattle.lxr_layout.specs.Registers.{nil}
 use Rattle.lxr_layout.proofs.NilLemmas.{held_cleared, nil_within}
 use Rattle.lxr_mutator.specs.Mutating.{Mutating}
 use Rattle.lxr_mutator.specs.Seen.{seen}

@@ -7,6 +7,9 @@ use Rattle.lxr_shared_heap.specs.Heaps.{StandsFor, TellsRenewed}
 use Rattle.lxr_shared_heap.specs.Settings.{run_of}
 use Rattle.lxr_shared_heap.proofs.heap.Heap.open.Goals as goal
 
+pub of-requires : goal.of-requires
+of-requires c = c.in-Ok.ensures.between.0.1.between.safepoint.holds.space
+
 pub invariant_of-result : goal.invariant_of-result
 invariant_of-result c =
     let script = replicate c.args.settings.mutators [] in (

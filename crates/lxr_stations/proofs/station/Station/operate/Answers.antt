@@ -4,7 +4,7 @@ use Rattle.lxr_actor.specs.declared.Event.TheVariants.{Order}
 use Rattle.lxr_core.specs.Actors.{any_machine}
 use Rattle.lxr_shared_passes.specs.Passing.{Told}
 use Rattle.lxr_stations.specs.Stations.{IsNoOrder, Stationed, StaysPassOf, table_of}
-use Rattle.lxr_stations.proofs.ReplyLemmas.{answered, opened, unanswered}
+use Rattle.lxr_stations.proofs.ReplyLemmas.{answered, next_ordered, opened, unanswered}
 use Rattle.lxr_stations.proofs.StayingLemmas.{absent_on, ordered_stays, station_stays, stays_further, told_from}
 use Rattle.lxr_stations.proofs.station.Station.operate.Goals as goal
 
@@ -16,10 +16,17 @@ returns-then-not-order_at-clause-answer c =
     (ap (λ b. (c.order_at.new.self.actor, b)) (sym not) ∙ c.order_at.ensures.answer ∙ ap (λ p. any_machine.ordered p.actor c.args.op) is)
     (subst (λ a. IsNoOrder a c.why_not.result) c.actor.ensures c.why_not.ensures)
 
-pub advance-requires : goal.advance-requires
-advance-requires c =
+pub carry_out-requires-clause-open : goal.carry_out-requires-clause-open
+carry_out-requires-clause-open c =
     let taken : c.order_at.result ≡ true = cc in
     opened c.args.self.now.pass.actor c.order_at.new.self.actor c.args.op
+    (ap (λ b. (c.order_at.new.self.actor, b)) (sym taken) ∙ c.order_at.ensures.answer ∙ ap (λ (s : Stationed). any_machine.ordered s.pass.actor c.args.op) c.self.view_is)
+    c.is_open.ensures.no_more
+
+pub carry_out-requires-clause-op : goal.carry_out-requires-clause-op
+carry_out-requires-clause-op c =
+    let taken : c.order_at.result ≡ true = cc in
+    next_ordered c.args.self.now.pass.actor c.order_at.new.self.actor c.args.op
     (ap (λ b. (c.order_at.new.self.actor, b)) (sym taken) ∙ c.order_at.ensures.answer ∙ ap (λ (s : Stationed). any_machine.ordered s.pass.actor c.args.op) c.self.view_is)
     c.is_open.ensures.no_more
 
@@ -27,7 +34,7 @@ pub returns-in-Some-clause-answer : goal.returns-in-Some-clause-answer
 returns-in-Some-clause-answer c =
     let is = ap (λ (s : Stationed). s.pass) c.self.view_is in
     let taken : c.order_at.result ≡ true = cc in
-    answered c.args.self.now.pass c.order_at.new.self c.advance.new.self.pass c.args.op (Some c.in-Some.reply)
+    answered c.args.self.now.pass c.order_at.new.self c.carry_out.new.self.pass c.args.op (Some c.in-Some.reply)
     (subst (λ p. Told any_machine p (Order p.number c.args.op) c.order_at.new.self) is c.order_at.ensures.event)
     (ap (λ b. (c.order_at.new.self.actor, b)) (sym taken) ∙ c.order_at.ensures.answer ∙ ap (λ p. any_machine.ordered p.actor c.args.op) is)
     c.is_open.ensures.no_more
@@ -37,7 +44,7 @@ pub returns-in-None-clause-answer : goal.returns-in-None-clause-answer
 returns-in-None-clause-answer c =
     let is = ap (λ (s : Stationed). s.pass) c.self.view_is in
     let taken : c.order_at.result ≡ true = cc in
-    answered c.args.self.now.pass c.order_at.new.self c.advance.new.self.pass c.args.op None
+    answered c.args.self.now.pass c.order_at.new.self c.carry_out.new.self.pass c.args.op None
     (subst (λ p. Told any_machine p (Order p.number c.args.op) c.order_at.new.self) is c.order_at.ensures.event)
     (ap (λ b. (c.order_at.new.self.actor, b)) (sym taken) ∙ c.order_at.ensures.answer ∙ ap (λ p. any_machine.ordered p.actor c.args.op) is)
     c.is_open.ensures.no_more
@@ -56,18 +63,18 @@ returns-in-Some-clause-stays c =
     let homes = (arc_value c.self.inside.shared).homes in
     let before : Stationed = record { pass = c.self.inside.pass; homes = homes } in
     let after : Stationed = record { pass = c.order_at.new.self; homes = homes } in
-    subst (λ s. StaysPassOf s c.advance.new.self) c.self.view_is
-    (stays_further before after c.advance.new.self
-    (station_stays before c.order_at.new.self (ordered_stays c.self.inside.pass c.args.op c.order_at.result c.order_at.new.self c.order_at.ensures.event c.order_at.ensures.answer)) c.advance.ensures.stays)
+    subst (λ s. StaysPassOf s c.carry_out.new.self) c.self.view_is
+    (stays_further before after c.carry_out.new.self
+    (station_stays before c.order_at.new.self (ordered_stays c.self.inside.pass c.args.op c.order_at.result c.order_at.new.self c.order_at.ensures.event c.order_at.ensures.answer)) c.carry_out.ensures.stays)
 
 pub returns-in-None-clause-stays : goal.returns-in-None-clause-stays
 returns-in-None-clause-stays c =
     let homes = (arc_value c.self.inside.shared).homes in
     let before : Stationed = record { pass = c.self.inside.pass; homes = homes } in
     let after : Stationed = record { pass = c.order_at.new.self; homes = homes } in
-    subst (λ s. StaysPassOf s c.advance.new.self) c.self.view_is
-    (stays_further before after c.advance.new.self
-    (station_stays before c.order_at.new.self (ordered_stays c.self.inside.pass c.args.op c.order_at.result c.order_at.new.self c.order_at.ensures.event c.order_at.ensures.answer)) c.advance.ensures.stays)
+    subst (λ s. StaysPassOf s c.carry_out.new.self) c.self.view_is
+    (stays_further before after c.carry_out.new.self
+    (station_stays before c.order_at.new.self (ordered_stays c.self.inside.pass c.args.op c.order_at.result c.order_at.new.self c.order_at.ensures.event c.order_at.ensures.answer)) c.carry_out.ensures.stays)
 
 pub invariant_of-self : goal.invariant_of-self
 invariant_of-self c = record {

@@ -1,10 +1,7 @@
 use Rattle.std.proofs.Common.{◌∙◌, ap, sym}
 use Rattle.lxr_actor.specs.Steps.{goes_on}
 use Rattle.lxr_mutator.specs.Mutating.{rests_in}
-use Rattle.lxr_mutator.proofs.mutator.Mutator.access.Goals as goal
-
-pub returns-in-Reference-clause-rest : goal.returns-in-Reference-clause-rest
-returns-in-Reference-clause-rest g c = goes_on (ap (λ m. rests_in m.phase) (sym c.self.view_is) ∙ ap rests_in c.in-Reference.is) c.load_reference.ensures.step c.tell_name.ensures.rest
+use Rattle.lxr_mutator.proofs.mutator.Mutator.access_datum.Goals as goal
 
 pub returns-in-Datum-clause-rest : goal.returns-in-Datum-clause-rest
 returns-in-Datum-clause-rest g c = goes_on (ap (λ m. rests_in m.phase) (sym c.self.view_is) ∙ ap rests_in c.in-Datum.is) c.load_datum.ensures.step c.finish.ensures.rest

@@ -1,0 +1,32 @@
+use Rattle.std.proofs.Common.{◌+◌, ◌*◌, ◌<◌, ◌≤◌, subst, arith}
+use Rattle.std.proofs.lemmas.Bool.{iff_false}
+use Rattle.lxr_graph.specs.declared.Reply.TheVariants as reply
+use Rattle.lxr_direct.specs.Operating.{IsBase}
+use Rattle.lxr_direct.proofs.FieldLemmas.{put_done, put_of_nil, put_past}
+use Rattle.lxr_direct.proofs.trying.try_put.Goals as goal
+
+pub returns-in_default-clause-misses : goal.returns-in_default-clause-misses
+returns-in_default-clause-misses c = λ e g serial may.
+    (reply.Bad, tt, put_of_nil c.args.space.now g c.args.thread serial may c.args.base c.args.index c.args.value (subst (IsBase g c.args.thread c.args.base) c.in_default.is (c.base_of.ensures.holds g serial may)))
+
+pub returns-then-not-has_field-clause-misses : goal.returns-then-not-has_field-clause-misses
+returns-then-not-has_field-clause-misses c = λ e g serial may.
+    let at = subst (IsBase g c.args.thread c.args.base) c.in-Some.is (c.base_of.ensures.holds g serial may) in
+    let past = iff_false c.has_field.ensures.there c.if-not-has_field.true in
+    (reply.Range, tt, put_past c.args.space.now g c.args.thread serial may c.args.base c.in-Some.object at.0 at.1 c.args.index c.args.value (omega (arith, past)))
+
+pub data_word-requires : goal.data_word-requires
+data_word-requires c = (c.base_of.ensures.inside c.in-Some.object c.in-Some.is).place
+
+pub put_heap-requires-clause-at : goal.put_heap-requires-clause-at
+put_heap-requires-clause-at c =
+    let inside = (c.base_of.ensures.inside c.in-Some.object c.in-Some.is).words in
+    let low = c.has_field.ensures.there.0 c.if-not-has_field.false in
+    let word = c.data_word.ensures in
+    omega (arith, inside, low, word)
+
+pub returns-clause-put : goal.returns-clause-put
+returns-clause-put c = λ e g serial may.
+    let at = subst (IsBase g c.args.thread c.args.base) c.in-Some.is (c.base_of.ensures.holds g serial may) in
+    let low = c.has_field.ensures.there.0 c.if-not-has_field.false in
+    put_done c.args.space.now g c.args.thread serial may c.args.base c.in-Some.object at.0 at.1 c.args.index c.args.value c.data_word.result c.put_heap.new.self c.ranges.base.fits low c.data_word.ensures c.put_heap.ensures

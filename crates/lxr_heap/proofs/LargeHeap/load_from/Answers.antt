@@ -1,0 +1,19 @@
+use Rattle.std.proofs.Common.{subst, List}
+use Rattle.lxr_graph.specs.declared.Op.TheVariants as op
+use Rattle.lxr_graph.specs.declared.Reply.TheVariants as reply
+use Rattle.lxr_direct.specs.Known.{referred}
+use Rattle.lxr_large_model.specs.declared.LargeOp.TheVariants as large_op
+use Rattle.lxr_large_model.specs.declared.LargeReply.TheVariants as large_reply
+use Rattle.lxr_large_model.specs.History.{LargeItem, large_state}
+use Rattle.lxr_heap.specs.Acting.{IsReplied}
+use Rattle.lxr_heap.specs.Holding.{IsHeapOf}
+use Rattle.lxr_heap.proofs.LargeHeap.load_from.Goals as goal
+
+pub invariant_of-self : goal.invariant_of-self
+invariant_of-self c = let (h, is) = c.self.invariant in (_, (c.load_reference.ensures.replied h is).holds)
+
+pub returns-clause-replied : goal.returns-clause-replied
+returns-clause-replied c =
+    subst (λ x. (h : List LargeItem) → IsHeapOf x h
+    → IsReplied x c.load_reference.new.heap h (large_op.Small (op.Load c.args.dest c.args.object.register c.args.index)) (large_reply.Small (reply.Loaded (referred (large_state h).small 1 c.args.object.register c.args.index))))
+    c.self.view_is c.load_reference.ensures.replied
