@@ -142,9 +142,11 @@ void memory_set_word(unsigned base, size_t all, size_t index, Word word) {
 
 bool memory_array(unsigned dest, size_t length) { return make(dest, length, 0); }
 
-void memory_array_load(unsigned dest, unsigned base, size_t index) { registers[dest] = references_of(registers[base])[index]; }
-
-void memory_array_store(unsigned base, size_t index, unsigned source) { references_of(registers[base])[index] = registers[source]; }
+unsigned memory_element(unsigned base, size_t length, size_t index) {
+    (void)base;
+    (void)length;
+    return (unsigned)index;
+}
 
 void memory_array_fill(unsigned base, size_t first, size_t count, unsigned source) {
     for (size_t i = first; i < first + count; i++) references_of(registers[base])[i] = registers[source];

@@ -3,9 +3,8 @@
  * usage: pauses_lxr MEGABYTES acyclic|cyclic ROUNDS EVERY
  *
  * EVERY is how many operations a thread makes between two pauses. A trace begins then when dead cycles have taken about two thirds
- * of what is free, and has half of the time to the next. With `default` in its place the settings are those of the header, with their
- * pace by bytes, but for the helpers. All are home once the last thread has come for a pause; the pause itself goes on until all can go
- * on. */
+ * of what is free, and ends once all is marked. With `default` in its place the settings are those of the header, with their pace by
+ * bytes, but for the helpers. All are home once the last thread has come for a pause; the pause itself goes on until all can go on. */
 #include <lxr_threads.h>
 #include <pthread.h>
 #include <stdatomic.h>
@@ -106,7 +105,6 @@ static lxr_shared_heap_settings settings_of(const char *every) {
     settings.log = 8192;
     settings.every = (uint32_t)strtoul(every, NULL, 10);
     settings.trace = pauses_between_traces(settings.every);
-    settings.within = settings.trace / 2;
     settings.pace = LXR_PACE_NEVER;
     settings.grow = 0;
     return settings;

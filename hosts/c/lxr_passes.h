@@ -47,7 +47,8 @@ typedef struct lxr_station {
 
 /*
  * What a heap is made of; lxr_threads.h says more of it. The first word is the size of it all, as of lxr_settings. Settings of version 0.2,
- * which end before `evacuate`, are taken: then that is an eighth of the blocks, and a mutator has sixteen registers.
+ * which end before `evacuate`, are taken: then that is an eighth of the blocks, and a mutator has sixteen registers. So are those that end
+ * before `runs`.
  */
 typedef struct lxr_passes_settings {
     uint64_t size;      /* sizeof(lxr_passes_settings) */
@@ -61,6 +62,8 @@ typedef struct lxr_passes_settings {
     uint32_t within;    /* pauses within which a trace ends, 1 to 1,000,000 */
     uint32_t evacuate;  /* blocks that a trace evacuates at most, 0 to an eighth of all */
     uint32_t registers; /* registers of a mutator, 16 to 256; 0: 16 */
+    uint32_t runs;      /* runs of free lines that are listed after a pause at most, above 1,024 blocks: 64 or more; 0: 65,536 */
+    uint32_t unused;    /* nothing is said here */
 } lxr_passes_settings;
 
 /* ---- A heap ---- */

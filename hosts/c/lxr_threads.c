@@ -358,10 +358,11 @@ static uint32_t all_registers(uint32_t registers) { return registers > LXR_MOST_
 
 /* What comes of an operation that has answered so: after the pauses that it waits for. LXR_E_HELD: it is to be called again. */
 static lxr_code wait_through(lxr_mutator *mutator, lxr_code code, uint64_t *word) {
+    uint64_t none = 0;
     while (code == LXR_E_WAITS || code == LXR_E_HELD) {
         if (take_part(mutator) != LXR_OK) return mutator->stopped;
         if (code == LXR_E_HELD) return code;
-        code = lxr_station_answer(&mutator->station, word);
+        code = lxr_station_answer(&mutator->station, word ? word : &none);
     }
     return code;
 }
@@ -373,22 +374,51 @@ static void meet_end(lxr_mutator *mutator) {
     if (code == LXR_E_USED_UP) mutator->left = mutator->granted = 1;
 }
 
-/* Does what an operation that has answered so leads to; whether it is to be called again. */
-static bool settle(lxr_mutator *mutator, lxr_code *code, uint64_t *word) {
-    if (*code >= LXR_E_WAITS) {
-        *code = wait_through(mutator, *code, word);
-        if (*code == LXR_E_HELD) return true;
-        if (mutator->left == 0) return false;
+/* Operations of a station. */
+enum kind { NEW, LOAD, STORE, SWAP, GET, PUT, ADD, SAME, MOVE, NIL };
+
+/* Calls for an operation with these registers, indexes and sizes, in the order of the call, and with this word, for this word, or both. */
+static lxr_code call_for(lxr_station *station, enum kind kind, const uint32_t *of, uint64_t *word) {
+    uint32_t same = 0;
+    lxr_code code = LXR_OK;
+    switch (kind) {
+    case NEW: return lxr_station_new(station, of[0], of[1], of[2]);
+    case LOAD: return lxr_station_load(station, of[0], of[1], of[2]);
+    case STORE: return lxr_station_store(station, of[0], of[1], of[2]);
+    case SWAP: return lxr_station_swap(station, of[0], of[1], of[2], of[3]);
+    case GET: return lxr_station_get(station, of[0], of[1], word);
+    case PUT: return lxr_station_put(station, of[0], of[1], *word);
+    case ADD: return lxr_station_add(station, of[0], of[1], *word, word);
+    case MOVE: return lxr_station_move(station, of[0], of[1]);
+    case NIL: return lxr_station_nil(station, of[0]);
+    case SAME:
+        code = lxr_station_same(station, of[0], of[1], &same);
+        if (code == LXR_OK) *word = same;
+    }
+    return code;
+}
+
+/* Counts an operation that has answered so; whether that is all. Mostly it is. */
+static inline bool is_all(lxr_mutator *mutator, lxr_code code) { return code < LXR_E_WAITS && --mutator->left; }
+
+/* What comes of one where it isn't. LXR_E_HELD: it is to be called for again. */
+static lxr_code settle(lxr_mutator *mutator, lxr_code code, uint64_t *word) {
+    if (code >= LXR_E_WAITS) {
+        code = wait_through(mutator, code, word);
+        if (code == LXR_E_HELD || mutator->left == 0) return code;
         mutator->left--;
     }
     if (mutator->left == 0) meet_end(mutator);
-    return false;
+    return code;
 }
 
-/* Whether an operation that has answered so is to be called again. Mostly it is done, and that is all. */
-static inline bool again(lxr_mutator *mutator, lxr_code *code, uint64_t *word) {
-    if (*code < LXR_E_WAITS && --mutator->left) return false;
-    return settle(mutator, code, word);
+/* The same, and calls for it as often as is needed. */
+static lxr_code go_on(lxr_mutator *mutator, lxr_code code, enum kind kind, const uint32_t *of, uint64_t *word) {
+    while ((code = settle(mutator, code, word)) == LXR_E_HELD) {
+        code = call_for(&mutator->station, kind, of, word);
+        if (is_all(mutator, code)) break;
+    }
+    return code;
 }
 
 /* Why a mutator makes no operation, if it makes none. */
@@ -428,80 +458,72 @@ static inline bool count_made(lxr_mutator *mutator, uint32_t refs, uint32_t word
 /* Each of these is an operation, whose registers may be the library's own. */
 
 static lxr_code make(lxr_mutator *mutator, uint32_t dest, uint32_t refs, uint32_t words) {
-    uint64_t word = 0;
-    bool counted = false;
+    const uint32_t of[] = { dest, refs, words };
     lxr_code code = refusal_to_fill(mutator, dest);
     if (code != LXR_OK) return code;
-    do {
-        code = lxr_station_new(&mutator->station, dest, refs, words);
-        counted = code == LXR_OK;
-        if (counted) count_made(mutator, refs, words);
-    } while (again(mutator, &code, &word));
+    code = lxr_station_new(&mutator->station, dest, refs, words);
+    bool counted = code == LXR_OK;
+    if (counted) count_made(mutator, refs, words);
+    if (is_all(mutator, code)) return code;
+    code = go_on(mutator, code, NEW, of, NULL);
     /* One that waited for a pause was made after it, and counts to what follows. */
     if (code == LXR_OK && !counted && count_made(mutator, refs, words)) meet_end(mutator);
     return code;
 }
 
 static inline lxr_code load(lxr_mutator *mutator, uint32_t dest, uint32_t base, uint32_t index) {
-    uint64_t word = 0;
+    const uint32_t of[] = { dest, base, index };
     lxr_code code = refusal_to_fill(mutator, dest);
     if (code != LXR_OK) return code;
-    do code = lxr_station_load(&mutator->station, dest, base, index);
-    while (again(mutator, &code, &word));
-    return code;
+    code = lxr_station_load(&mutator->station, dest, base, index);
+    return is_all(mutator, code) ? code : go_on(mutator, code, LOAD, of, NULL);
 }
 
 static inline lxr_code store(lxr_mutator *mutator, uint32_t base, uint32_t index, uint32_t source) {
-    uint64_t word = 0;
+    const uint32_t of[] = { base, index, source };
     lxr_code code = refusal(mutator);
     if (code != LXR_OK) return code;
-    do code = lxr_station_store(&mutator->station, base, index, source);
-    while (again(mutator, &code, &word));
-    return code;
+    code = lxr_station_store(&mutator->station, base, index, source);
+    return is_all(mutator, code) ? code : go_on(mutator, code, STORE, of, NULL);
 }
 
 static inline lxr_code swap(lxr_mutator *mutator, uint32_t dest, uint32_t base, uint32_t index, uint32_t source) {
-    uint64_t word = 0;
+    const uint32_t of[] = { dest, base, index, source };
     lxr_code code = refusal_to_fill(mutator, dest);
     if (code != LXR_OK) return code;
-    do code = lxr_station_swap(&mutator->station, dest, base, index, source);
-    while (again(mutator, &code, &word));
-    return code;
+    code = lxr_station_swap(&mutator->station, dest, base, index, source);
+    return is_all(mutator, code) ? code : go_on(mutator, code, SWAP, of, NULL);
 }
 
 static inline lxr_code get(lxr_mutator *mutator, uint32_t base, uint32_t index, uint64_t *word) {
+    const uint32_t of[] = { base, index };
     lxr_code code = refusal(mutator);
     if (code != LXR_OK) return code;
-    do code = lxr_station_get(&mutator->station, base, index, word);
-    while (again(mutator, &code, word));
-    return code;
+    code = lxr_station_get(&mutator->station, base, index, word);
+    return is_all(mutator, code) ? code : go_on(mutator, code, GET, of, word);
 }
 
 static inline lxr_code put(lxr_mutator *mutator, uint32_t base, uint32_t index, uint64_t word) {
-    uint64_t none = 0;
+    const uint32_t of[] = { base, index };
     lxr_code code = refusal(mutator);
     if (code != LXR_OK) return code;
-    do code = lxr_station_put(&mutator->station, base, index, word);
-    while (again(mutator, &code, &none));
-    return code;
+    code = lxr_station_put(&mutator->station, base, index, word);
+    return is_all(mutator, code) ? code : go_on(mutator, code, PUT, of, &word);
 }
 
 static inline lxr_code move(lxr_mutator *mutator, uint32_t dest, uint32_t source) {
-    uint64_t word = 0;
+    const uint32_t of[] = { dest, source };
     lxr_code code = refusal_to_fill(mutator, dest);
     if (code != LXR_OK) return code;
-    do code = lxr_station_move(&mutator->station, dest, source);
-    while (again(mutator, &code, &word));
-    return code;
+    code = lxr_station_move(&mutator->station, dest, source);
+    return is_all(mutator, code) ? code : go_on(mutator, code, MOVE, of, NULL);
 }
 
 static inline lxr_code clear(lxr_mutator *mutator, uint32_t dest) {
-    uint64_t word = 0;
     lxr_code code = refusal(mutator);
     if (code != LXR_OK) return code;
-    do code = lxr_station_nil(&mutator->station, dest);
-    while (again(mutator, &code, &word));
-    return code;
+    code = lxr_station_nil(&mutator->station, dest);
+    return is_all(mutator, code) ? code : go_on(mutator, code, NIL, &dest, NULL);
 }
 
 lxr_code lxr_mutator_new(lxr_mutator *mutator, uint32_t dest, uint32_t refs, uint32_t words) {
@@ -536,21 +558,27 @@ lxr_code lxr_mutator_put(lxr_mutator *mutator, uint32_t base, uint32_t index, ui
 }
 
 lxr_code lxr_mutator_add(lxr_mutator *mutator, uint32_t base, uint32_t index, uint64_t word, uint64_t *old) {
+    const uint32_t of[] = { base, index };
     lxr_code code = refusal_of(mutator, base, base);
     if (code != LXR_OK) return code;
-    do code = lxr_station_add(&mutator->station, base, index, word, old);
-    while (again(mutator, &code, old));
+    code = lxr_station_add(&mutator->station, base, index, word, old);
+    if (is_all(mutator, code)) return code;
+    bool is_told = code == LXR_OK;
+    code = go_on(mutator, code, ADD, of, &word);
+    if (code == LXR_OK && !is_told) *old = word;
     return code;
 }
 
 lxr_code lxr_mutator_same(lxr_mutator *mutator, uint32_t left, uint32_t right, uint32_t *same) {
-    uint32_t flag = 2;
-    uint64_t answer = 2;
+    const uint32_t of[] = { left, right };
     lxr_code code = refusal_of(mutator, left, right);
     if (code != LXR_OK) return code;
-    do code = lxr_station_same(&mutator->station, left, right, &flag);
-    while (again(mutator, &code, &answer));
-    if (code == LXR_OK) *same = answer < 2 ? (uint32_t)answer : flag;
+    code = lxr_station_same(&mutator->station, left, right, same);
+    if (is_all(mutator, code)) return code;
+    bool is_told = code == LXR_OK;
+    uint64_t answer = 0;
+    code = go_on(mutator, code, SAME, of, &answer);
+    if (code == LXR_OK && !is_told) *same = (uint32_t)answer;
     return code;
 }
 
@@ -1159,12 +1187,13 @@ static uint32_t start_helpers(lxr_shared_heap *heap) {
 
 /* ---- A heap ---- */
 
-/* Reads settings of this version, of those that end before the room, or of 0.2, which evacuated an eighth of the blocks; whether their size is one
- * of these. */
+/* Reads settings of this version, of those that end before the runs or before the room, or of 0.2, which evacuated an eighth of the blocks; whether
+ * their size is one of these. */
 static bool read_settings(lxr_shared_heap_settings *settings, const lxr_shared_heap_settings *from) {
     const size_t first = offsetof(lxr_shared_heap_settings, evacuate), second = offsetof(lxr_shared_heap_settings, room);
-    if (from->size != sizeof *settings && from->size != first && from->size != second) return false;
-    settings->registers = settings->room = settings->grow = 0;
+    const size_t third = offsetof(lxr_shared_heap_settings, runs);
+    if (from->size != sizeof *settings && from->size != first && from->size != second && from->size != third) return false;
+    settings->registers = settings->room = settings->grow = settings->runs = 0;
     memcpy(settings, from, (size_t)from->size);
     if (from->size == first) settings->evacuate = settings->blocks / 8;
     if (settings->registers == 0) settings->registers = LXR_REGISTERS;
@@ -1198,9 +1227,10 @@ static lxr_code open_passes(lxr_shared_heap *heap) {
         .remember = asked->remember,
         .every = asked->every + SPARE,
         .trace = asked->trace,
-        .within = asked->within,
+        .within = asked->within ? asked->within : LXR_MOST_TRACE,
         .evacuate = asked->evacuate,
         .registers = all_registers(asked->registers),
+        .runs = asked->runs,
     };
     lxr_code code = lxr_passes_open(&heap->passes, &settings);
     uint64_t blocks_free = asked->blocks;

@@ -48,6 +48,7 @@ typedef struct lxr_mutator lxr_mutator;
 #define LXR_MOST_REMEMBER      1048576u /* entries of the remembered set */
 #define LXR_MOST_EVERY         1000000u /* operations of a mutator between two pauses */
 #define LXR_MOST_TRACE         1000000u /* pauses from one trace to the next, and within one */
+#define LXR_LEAST_RUNS         64u      /* the fewest pieces of free lines that are listed at most: those of a block */
 
 /* How long a pause took; where a collecting one came right after it, both. */
 typedef struct lxr_pause_times {
@@ -75,6 +76,10 @@ typedef struct lxr_pause_times {
  * heap of up to 1,024 blocks the first ones, and in a larger one those with the fewest. What lives in them as the trace ends is copied
  * elsewhere by that pause, which is the longer for it, and they are whole again. By 0 none is, and what is old stays where it is.
  *
+ * A trace ends at the first pause at which all that it has to mark is marked, or after `within` pauses: then that pause marks the rest by itself. So
+ * by a small number the pauses that end traces grow with what lives; by 0 they find it marked by the helpers. But a trace takes longer then,
+ * dead cycles wait for its end, and the pause that ends it clears away so many more.
+ *
  * `registers` is how many registers each mutator has. What a pause takes grows with those in use alone (lxr_mutator_registers_in_use). Where
  * they are at most 254, each mutator has two more for the library, by which arrays are gone along.
  *
@@ -84,8 +89,13 @@ typedef struct lxr_pause_times {
  * that are in use then and so many hundredths more, but at least 64, and at most all. Where `grow` is 0 it stays as the host has set it; then what a
  * collecting pause left in use and a quarter more counts as the room, where that is more. LXR_E_FULL comes only where all that is reserved is full.
  *
+ * In a heap of more than 1,024 blocks at most `runs` pieces of free lines are listed after a pause for mutators to allocate in, besides all free
+ * blocks: in turn round the heap, from where the last list ended, so that none is left out for ever. Fewer make the pauses of a large heap in
+ * pieces shorter; but a mutator that comes to the end of the list waits for a pause. What isn't listed is free all the same, and counts where
+ * LXR_E_FULL is told.
+ *
  * Settings of version 0.2, which end before `evacuate`, are taken: then that is an eighth of the blocks, and there are sixteen registers. So are
- * those that end before `room`: then it is all, and doesn't grow.
+ * those that end before `room`: then it is all, and doesn't grow; and those that end before `runs`.
  */
 typedef struct lxr_shared_heap_settings {
     uint64_t size;     /* sizeof(lxr_shared_heap_settings) */
@@ -96,7 +106,7 @@ typedef struct lxr_shared_heap_settings {
     uint32_t remember; /* references that a trace remembers, 1 to 1,048,576 */
     uint32_t every;    /* a mutator wants a pause after so many operations since the last one, 1 to 1,000,000 */
     uint32_t trace;    /* each pause whose number is a multiple of it begins a trace, where none runs, 1 to 1,000,000 */
-    uint32_t within;   /* a trace ends at the latest so many pauses after it began, 1 to 1,000,000 */
+    uint32_t within;   /* a trace ends at the latest so many pauses after it began, up to 1,000,000; 0: that many */
 
     /* Told of each pause right after it, unless it is null, by the thread that made it. It waits for no thread and calls none of these. */
     void (*paused)(void *with, const lxr_pause_times *times);
@@ -107,6 +117,8 @@ typedef struct lxr_shared_heap_settings {
     uint32_t registers; /* registers of each mutator, LXR_REGISTERS to LXR_MOST_REGISTERS; 0: LXR_REGISTERS */
     uint32_t room;      /* blocks in use before it collects, up to all blocks; 0: all */
     uint32_t grow;      /* hundredths by which the room grows, up to LXR_MOST_GROW; 0: never */
+    uint32_t runs;      /* pieces of free lines that are listed after a pause at most, LXR_LEAST_RUNS or more; 0: 65,536 */
+    uint32_t unused;    /* nothing is said here */
 } lxr_shared_heap_settings;
 
 /*
@@ -116,8 +128,8 @@ typedef struct lxr_shared_heap_settings {
  */
 #define LXR_SHARED_HEAP_SETTINGS(blocks, mutators) \
     { \
-        sizeof(lxr_shared_heap_settings), (blocks), (mutators), 1, 1024, 65536, 65536, 16, 4, 0, 0, LXR_PACE_ROOM, \
-            (uint32_t)((blocks) < 512 ? (blocks) / 8 : 64), LXR_REGISTERS, 0, LXR_GROW \
+        sizeof(lxr_shared_heap_settings), (blocks), (mutators), 1, 1024, 65536, 65536, 16, 0, 0, 0, LXR_PACE_ROOM, \
+            (uint32_t)((blocks) < 512 ? (blocks) / 8 : 64), LXR_REGISTERS, 0, LXR_GROW, 0, 0 \
     }
 
 /* ---- A heap ---- */

@@ -53,10 +53,16 @@ static inline void field_put(Field field, Word word) {
     }
 }
 
+/* REGISTER_PART holds the object that has the reference of a long vector's element: which one of it that is. */
+static inline unsigned find_element(Field field) {
+    memory_load(REGISTER_PART, field.base, LONG_ELEMENTS);
+    return memory_element(REGISTER_PART, field.length, field.index);
+}
+
 FOLDED void field_load(unsigned dest, Field field) {
     if (field.length) {
-        memory_load(REGISTER_PART, field.base, LONG_ELEMENTS);
-        memory_array_load(dest, REGISTER_PART, field.index);
+        const unsigned reference = find_element(field);
+        memory_load(dest, REGISTER_PART, reference);
     } else {
         memory_load(dest, field.base, (unsigned)field.index);
     }
@@ -64,8 +70,8 @@ FOLDED void field_load(unsigned dest, Field field) {
 
 static inline void field_store(Field field, unsigned source) {
     if (field.length) {
-        memory_load(REGISTER_PART, field.base, LONG_ELEMENTS);
-        memory_array_store(REGISTER_PART, field.index, source);
+        const unsigned reference = find_element(field);
+        memory_store(REGISTER_PART, reference, source);
     } else {
         memory_store(field.base, (unsigned)field.index, source);
     }

@@ -72,10 +72,12 @@ void memory_set_word(unsigned base, size_t all, size_t index, Word word);
 
 /* A new array, whose elements are nil. Whether there is room: else `dest` holds what it held. A copy may be of elements that overlap. */
 bool memory_array(unsigned dest, size_t length);
-void memory_array_load(unsigned dest, unsigned base, size_t index);
-void memory_array_store(unsigned base, size_t index, unsigned source);
 void memory_array_fill(unsigned base, size_t first, size_t count, unsigned source);
 void memory_array_copy(unsigned to, size_t at, unsigned from, size_t first, size_t count);
+
+/* Register `base` holds an array of so many elements, and then the object that has one of them: which of its references that is. An array
+ * of up to OBJECT_MOST elements is that object itself. */
+unsigned memory_element(unsigned base, size_t length, size_t index);
 
 /* Bytes that the thread may make until registers are to let go of what isn't needed. */
 #ifdef THREADS

@@ -181,12 +181,12 @@ bool memory_array(unsigned dest, size_t length) {
     return is_done(code);
 }
 
-void memory_array_load(unsigned dest, unsigned base, size_t index) { want(lxr_array_load(&heap, dest, base, (uint32_t)index)); }
-
-void memory_array_store(unsigned base, size_t index, unsigned source) {
-    const uint64_t began = is_timed ? pauses_clock() : 0;
-    want(lxr_array_store(&heap, base, (uint32_t)index, source));
-    if (is_timed) note_pauses(PAUSE_PLAIN, began);
+/* Of more elements than an object has references, each so many are those of a part, to which the array refers (lxr.h). How many there are
+ * is known here, and the array is none of another shape: so it takes one lxr_load. */
+unsigned memory_element(unsigned base, size_t length, size_t index) {
+    if (length <= LXR_MOST_REFS) return (unsigned)index;
+    memory_load(base, base, (unsigned)(index / LXR_MOST_REFS));
+    return (unsigned)(index % LXR_MOST_REFS);
 }
 
 void memory_array_fill(unsigned base, size_t first, size_t count_of_references, unsigned source) {

@@ -43,7 +43,8 @@ bool memory_open(const MemoryOptions *options) {
     settings.log = LOG;
     settings.pace = options->every ? options->every : quarter > LEAST_PACE ? quarter : LEAST_PACE;
     settings.registers = options->registers;
-    settings.grow = 0; /* so the figures are those of the heap that is told */
+    settings.within = 0; /* most of what a program drops is no cycle, so traces may take their time */
+    settings.grow = 0;   /* so the figures are those of the heap that is told */
     between = (int64_t)(settings.pace / 4 > LEAST_PACE ? settings.pace / 4 : LEAST_PACE);
     memory_left = between;
     if (options->pauses) settings.paused = note_pause;
@@ -173,10 +174,11 @@ void memory_set_word(unsigned base, size_t all, size_t index, Word word) {
 
 bool memory_array(unsigned dest, size_t length) { return is_made(lxr_mutator_array_new(mutator, dest, (uint32_t)length), length); }
 
-void memory_array_load(unsigned dest, unsigned base, size_t index) { want(lxr_mutator_array_load(mutator, dest, base, (uint32_t)index)); }
-
-void memory_array_store(unsigned base, size_t index, unsigned source) {
-    want(lxr_mutator_array_store(mutator, base, (uint32_t)index, source));
+/* Of more elements than an object has references, each so many are those of a part, to which the array refers (lxr.h). */
+unsigned memory_element(unsigned base, size_t length, size_t index) {
+    if (length <= LXR_MOST_REFS) return (unsigned)index;
+    memory_load(base, base, (unsigned)(index / LXR_MOST_REFS));
+    return (unsigned)(index % LXR_MOST_REFS);
 }
 
 void memory_array_fill(unsigned base, size_t first, size_t count, unsigned source) {

@@ -28,7 +28,7 @@ void machine_words(const Machine *machine, unsigned dest, size_t count) {
     machine_array(machine, dest, (count + WORDS_MOST - 1) / WORDS_MOST);
     for (size_t at = 0; at < count; at += WORDS_MOST) {
         make_whole(machine, REGISTER_PART, least(count - at, WORDS_MOST));
-        memory_array_store(dest, at / WORDS_MOST, REGISTER_PART);
+        memory_store(dest, (unsigned)(at / WORDS_MOST), REGISTER_PART);
     }
 }
 

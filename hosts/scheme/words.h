@@ -1,9 +1,9 @@
 /*
  * Words and arrays in any number, behind references of objects. SPDX: MIT OR Apache-2.0
  *
- * Up to WORDS_MOST words are words of the heap, and more are an array of PARTS, which are WORDS_MOST words each, or the rest of them. They
- * are read and written by way of the object that refers to them. REGISTER_PART holds them meanwhile, and is free again after each call
- * here.
+ * Up to WORDS_MOST words are words of the heap, and more are an array of PARTS, which are WORDS_MOST words each, or the rest of them. There
+ * are at most OBJECT_MOST parts, so that array is one object. They are read and written by way of the object that refers to them.
+ * REGISTER_PART holds them meanwhile, and is free again after each call here.
  */
 #ifndef WORDS_H
 #define WORDS_H
@@ -27,7 +27,7 @@ static inline WordPlace words_find(Words words, size_t index) {
     memory_load(REGISTER_PART, words.base, words.reference);
     if (words.count <= WORDS_MOST) return (WordPlace){words.count, index};
     const size_t part = index / WORDS_MOST, left = words.count - part * WORDS_MOST;
-    memory_array_load(REGISTER_PART, REGISTER_PART, part);
+    memory_load(REGISTER_PART, REGISTER_PART, (unsigned)part);
     return (WordPlace){left < WORDS_MOST ? left : WORDS_MOST, index % WORDS_MOST};
 }
 

@@ -227,7 +227,7 @@ impl Board {
         }
     }
 
-    /// Goes on behind a pause, with those at home, or ends.
+    /// Goes on after a pause, with those at home, or ends.
     fn resume(&mut self, alloc: Global) {
         match resume(alloc, &mut self.heap) {
             Resumed::Open => self.go_on(),

@@ -1,6 +1,6 @@
 //! A case: how a script is played, and the script.
 use lxr_graph::Op;
-use lxr_shared_heap::Settings;
+use lxr_shared_heap::{RUNS_LISTED, Settings};
 use lxr_text_script::{Script, read_script};
 use std::alloc::Global;
 
@@ -67,6 +67,7 @@ impl<'a> Case<'a> {
             every: self.setting("every", 1024),
             trace: self.setting("trace", 8),
             within: self.setting("within", 4),
+            runs: self.setting("runs", RUNS_LISTED),
             names: true,
         }
     }

@@ -253,7 +253,7 @@ fn goes_on(step: Step) -> bool {
     matches!(step, Step::Done | Step::Answered)
 }
 
-/// Where a mutator sits behind a step that isn't done.
+/// Where a mutator sits after a step that isn't done.
 fn seat_of(step: Step) -> Seat {
     match step {
         Step::Held { waits } => Seat::Home { waits },

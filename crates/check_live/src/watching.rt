@@ -86,7 +86,7 @@ impl Watching {
         }
     }
 
-    /// How many `new`s were served behind a pause.
+    /// How many `new`s were served after a pause.
     fn served(&self, number: usize) -> u64 {
         match (
             self.pauses.get(number),
@@ -107,7 +107,7 @@ impl Watching {
         }
     }
 
-    /// Adds the `new`s that were answered behind a pause, from one on. The first that wasn't.
+    /// Adds the `new`s that were answered after a pause, from one on. The first that wasn't.
     fn note_behind(
         &mut self,
         serving: &mut Serving,

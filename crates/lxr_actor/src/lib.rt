@@ -158,7 +158,10 @@ pub fn step<W: Words, A: Actor>(words: &mut W, actor: &mut A) -> bool
     };
     let at = action.word as usize;
     let old = words.get(at);
-    words.set(at, action.kind.apply(old, action.operand));
+    match action.kind {
+        Kindred::Load => {}
+        kind => words.set(at, kind.apply(old, action.operand)),
+    }
     actor.take(old);
     true
 }

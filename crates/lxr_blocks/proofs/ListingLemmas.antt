@@ -18,7 +18,7 @@ use Rattle.lxr_blocks.specs.declared.states.BlockState.TheVariants.{Free, Partly
 use Rattle.lxr_blocks.specs.States.{AreFreeBlocks, state_in}
 use Rattle.lxr_blocks.specs.Lines.{IsFirstLine, IsNextRun}
 use Rattle.lxr_blocks.specs.Masks.{AreEdges}
-use Rattle.lxr_blocks.specs.Listing.{block_frees, block_runs, joined, lists_block, lists_runs, numbers_from, run_words, with_frees, with_listed, with_lists}
+use Rattle.lxr_blocks.specs.Listing.{block_frees, block_runs, joined, lists_block, lists_runs, TurnsWithRest, numbers_from, run_words, with_counts, with_frees, with_listed, with_lists}
 
 -- ---- runs of a block
 
@@ -122,7 +122,7 @@ joined_none f = refl
 -- ---- blocks of which nothing is listed, or the number
 
 -- where the blocks from one on have none, more of them have no more
-joined_same : (f : ℕ → List ℕ) (from many : ℕ) → ((b : ℕ) → from ≤ b → b < from + many → f b ≡ []) → joined f (from + many) ≡ joined f from
+pub joined_same : (f : ℕ → List ℕ) (from many : ℕ) → ((b : ℕ) → from ≤ b → b < from + many → f b ≡ []) → joined f (from + many) ≡ joined f from
 joined_same f from zero none = ap (joined f) (let z : from + 0 ≡ from = omega arith in z)
 joined_same f from (suc many) none =
     ap (joined f) (let z : from + suc many ≡ from + many + 1 = omega arith in z)
@@ -156,7 +156,7 @@ unfolding numbers_from
 numbers_more from many = rw add-one refl
 
 -- a Free block lists its number and no runs
-free_lists_none : (t : Tables) (b : ℕ) → state_in t b ≡ Free → block_runs t b ≡ []
+pub free_lists_none : (t : Tables) (b : ℕ) → state_in t b ≡ Free → block_runs t b ≡ []
 free_lists_none t b free = ap (λ s. if lists_runs s then (run_words t b) else []) free
 
 free_lists_itself : (t : Tables) (b : ℕ) → state_in t b ≡ Free → block_frees t b ≡ b ∷ []
@@ -261,19 +261,32 @@ run_more a b c at n x xs zs first is both second =
 abbrev pub with_cursor : Tables → ℕ → ℕ → Tables
 with_cursor t k v = record t { cursors = changed t.cursors k v }
 
-pub all_listed : (a b c d e f : Space) (xs ys : List ℕ) (runs frees : ℕ) → Turns a b (with_listed (tables_of a) xs ys) → runs ≡ length xs → frees ≡ length ys
+-- both are counted, and nothing is drawn of them
+pub counts_set : (b c d e f : Space) (runs frees n m : ℕ) → runs ≡ n → frees ≡ m
     → Turns b c (with_cursor (tables_of b) 1 0) → Turns c d (with_cursor (tables_of c) 2 runs) → Turns d e (with_cursor (tables_of d) 3 0) → Turns e f (with_cursor (tables_of e) 4 frees)
-    → Turns a f (with_lists (tables_of a) xs ys)
-all_listed a b c d e f xs ys runs frees first runs_is frees_is one two three four =
-    let t : Tables = tables_of a in
-    let all = turns_then a e f _ _ (turns_then a d e _ _ (turns_then a c d _ _ (turns_then a b c _ _ first one) two) three) four in
+    → Turns b f (with_counts (tables_of b) n m)
+counts_set b c d e f runs frees n m runs_are frees_are one two three four =
+    let t : Tables = tables_of b in
+    let all = turns_then b e f _ _ (turns_then b d e _ _ (turns_then b c d _ _ one two) three) four in
     record {
       tables = four.tables
-          ∙ ap (λ u. with_cursor u FREE_BLOCK_COUNT frees) (three.tables ∙ ap (λ u. with_cursor u FREE_BLOCK_CURSOR 0) (two.tables ∙ ap (λ u. with_cursor u RUN_COUNT runs) (one.tables ∙ ap (λ u. with_cursor u RUN_CURSOR 0) first.tables)))
+          ∙ ap (λ u. with_cursor u FREE_BLOCK_COUNT frees) (three.tables ∙ ap (λ u. with_cursor u FREE_BLOCK_CURSOR 0) (two.tables ∙ ap (λ u. with_cursor u RUN_COUNT runs) one.tables))
+          ∙ (λ j. record t { cursors = changed (changed (changed (changed t.cursors RUN_CURSOR 0) 2 (runs_are j)) 3 0) 4 (frees_are j) });
+      rest = all.rest;
+    }
+
+-- lists that are written are begun anew
+pub begun_lists : (a b f : Space) (xs ys : List ℕ) (runs frees : ℕ) → Turns a b (with_listed (tables_of a) xs ys) → runs ≡ length xs → frees ≡ length ys → TurnsWithRest b f (with_counts (tables_of b) runs frees) 0 0
+    → TurnsWithRest a f (with_lists (tables_of a) xs ys) 0 0
+begun_lists a b f xs ys runs frees first runs_are frees_are begun =
+    let t : Tables = tables_of a in
+    record {
+      tables = begun.tables
+          ∙ ap (λ u. with_counts u runs frees) first.tables
           ∙ (λ j. record t {
             runs = written t.runs 0 xs;
             frees = written t.frees 0 ys;
-            cursors = changed (changed (changed (changed t.cursors RUN_CURSOR 0) 2 (runs_is j)) 3 0) 4 (frees_is j);
+            cursors = changed (changed (changed (changed t.cursors RUN_CURSOR 0) RUN_COUNT (runs_are j)) FREE_BLOCK_CURSOR 0) FREE_BLOCK_COUNT (frees_are j);
           });
-      rest = all.rest;
+      rest = begun.rest ∙ ap {A = Space} (λ s. record s { words = f.words; rest_next = 0; rest_end = 0 }) first.rest;
     }

@@ -1,6 +1,7 @@
 pub mod Clearing
 pub mod ClearingAll
 pub mod Handing
+pub mod InTurn
 pub mod Kept
 pub mod Lines
 pub mod Listing

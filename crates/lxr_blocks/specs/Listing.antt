@@ -64,6 +64,12 @@ with_lists t runs frees = record t {
   cursors = changed (changed (changed (changed t.cursors RUN_CURSOR 0) RUN_COUNT (length runs)) FREE_BLOCK_CURSOR 0) FREE_BLOCK_COUNT (length frees);
 }
 
+-- so many runs and blocks are listed, and nothing is drawn of them yet
+abbrev pub with_counts : Tables → ℕ → ℕ → Tables
+with_counts t runs frees = record t {
+  cursors = changed (changed (changed (changed t.cursors RUN_CURSOR 0) RUN_COUNT runs) FREE_BLOCK_CURSOR 0) FREE_BLOCK_COUNT frees;
+}
+
 -- the tables with numbers written to the table of free blocks from an index on
 abbrev pub with_frees : Tables → ℕ → List ℕ → Tables
 with_frees t at numbers = record t { frees = written t.frees at numbers }

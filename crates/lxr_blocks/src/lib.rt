@@ -9,6 +9,7 @@
 mod clearing;
 mod clearing_all;
 mod handing;
+mod in_turn;
 mod in_use;
 mod laws;
 mod listing;
@@ -22,6 +23,7 @@ mod zeros;
 pub use clearing::{clear_counted, clear_line_marks, clear_logs, clear_object};
 pub use clearing_all::{Bits, clear_all};
 pub use handing::hand_out;
+pub use in_turn::{list_in_turn, no_run_is_left_out};
 pub use in_use::next_in_use;
 pub use laws::{free_line_is_told, kept_line_is_taken, placed_is_beside};
 pub use listing::list_runs;

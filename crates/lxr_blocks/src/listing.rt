@@ -1,10 +1,11 @@
 //! Listing the free lines and the free blocks, for threads to draw from.
-ghost use Rattle.std.specs.Prelude.{◌≡◌, ◌+◌, ◌-◌, ◌*◌, ◌<◌, ◌≤◌, length, take};
+ghost use Rattle.std.specs.Prelude.{◌≡◌, ℕ, ◌+◌, ◌-◌, ◌*◌, ◌<◌, ◌≤◌, IfNone, IfSome, List, length, take};
 ghost use Rattle.lxr_layout.specs.declared.TheConstants.{MOST_BLOCKS};
 ghost use Rattle.lxr_image.specs.Runs.{bits_of, with_runs, words_of_runs};
+ghost use Rattle.lxr_image.specs.Settled.{AreRunsOfFree};
 ghost use Rattle.lxr_image.specs.Spaces.{IsSpace, Turns, tables_of};
 ghost use Rattle.lxr_blocks.specs.declared.listing.TheConstants.{MOST_RUNS};
-ghost use Rattle.lxr_blocks.specs.Listing.{TurnsWithRest, block_runs, listed_frees, listed_runs, numbers_from, run_words, with_frees, with_listed, with_lists};
+ghost use Rattle.lxr_blocks.specs.Listing.{TurnsWithRest, block_runs, listed_frees, listed_runs, numbers_from, run_words, with_counts, with_frees, with_listed, with_lists};
 
 use crate::in_use::next_in_use;
 use crate::masks::{edges_of, free_mask, next_run};
@@ -36,7 +37,7 @@ fn find_runs(free: u128, block: u32, words: &mut [u64; MOST_RUNS]) -> usize
 fn list_anew(space: &mut Space, block: u32, first: u32) -> u32
     requires space { IsSpace space.old }
     requires block { block < space.old.limits.blocks }
-    requires first { first ≤ 64 * block }
+    requires first { first + 64 ≤ 64 * space.old.limits.blocks }
     ensures runs { Turns space.old space.new (with_runs (tables_of space.old) first (run_words (tables_of space.old) block)) }
     ensures count { result ≡ first + length (run_words (tables_of space.old) block) }
 {
@@ -48,29 +49,43 @@ fn list_anew(space: &mut Space, block: u32, first: u32) -> u32
     first + many as u32
 }
 
+/// Writes the runs of a block to the run table from an index on, where they are kept and that place is none of a later block's, and answers
+/// how many there are.
+fn copy_lines(space: &mut Space, block: u32, first: u32) -> Option<u32>
+    requires space { IsSpace space.old }
+    requires block { block < space.old.limits.blocks }
+    ensures none { IfNone result (space.new ≡ space.old) }
+    ensures some { IfSome result (λ many. (words : List ℕ) × AreRunsOfFree words (tables_of space.old) block × (many ≡ length words) × Turns space.old space.new (with_runs (tables_of space.old) first words)) }
+{
+    if first > 64 * block {
+        return None;
+    }
+    space.put_known_runs(block, first)
+}
+
 /// Writes the runs of a block to the run table from an index on, and answers the index behind them. Where they are kept they are copied.
 fn list_lines(space: &mut Space, block: u32, first: u32) -> u32
     requires space { IsSpace space.old }
     requires block { block < space.old.limits.blocks }
-    requires first { first ≤ 64 * block }
+    requires first { first + 64 ≤ 64 * space.old.limits.blocks }
     ensures runs { Turns space.old space.new (with_runs (tables_of space.old) first (run_words (tables_of space.old) block)) }
     ensures count { result ≡ first + length (run_words (tables_of space.old) block) }
-    ensures room { result ≤ 64 * (block + 1) }
+    ensures room { result ≤ first + 64 }
 {
-    match space.put_known_runs(block, first) {
+    match copy_lines(space, block, first) {
         Some(many) => first + many,
         None => list_anew(space, block, first),
     }
 }
 
 /// Writes the runs of a block that has the state for it.
-fn list_block(space: &mut Space, block: u32, first: u32) -> u32
+pub(crate) fn list_block(space: &mut Space, block: u32, first: u32) -> u32
     requires space { IsSpace space.old }
     requires block { block < space.old.limits.blocks }
-    requires first { first ≤ 64 * block }
+    requires first { first + 64 ≤ 64 * space.old.limits.blocks }
     ensures runs { Turns space.old space.new (with_runs (tables_of space.old) first (block_runs (tables_of space.old) block)) }
     ensures count { result ≡ first + length (block_runs (tables_of space.old) block) }
-    ensures room { result ≤ 64 * (block + 1) }
+    ensures room { result ≤ first + 64 }
 {
     match state(space, block) {
         BlockState::Partly | BlockState::World => list_lines(space, block, first),
@@ -80,7 +95,7 @@ fn list_block(space: &mut Space, block: u32, first: u32) -> u32
 
 /// Writes the numbers of blocks in a row that are Free to the table of free blocks from an index on, and answers the index behind them.
 #[inline(always)]
-fn list_between(space: &mut Space, from: u32, end: u32, first: u32) -> u32
+pub(crate) fn list_between(space: &mut Space, from: u32, end: u32, first: u32) -> u32
     requires space { IsSpace space.old }
     requires blocks { (from ≤ end) × (end ≤ space.old.limits.blocks) }
     requires first { first ≤ from }
@@ -114,6 +129,19 @@ fn list_all(space: &mut Space) -> (u32, u32)
     (runs, frees)
 }
 
+/// Begins to draw anew of lists of so many runs and so many blocks. No lines are left from which an object was placed last.
+pub(crate) fn begin_lists(space: &mut Space, runs: u32, frees: u32)
+    requires { IsSpace space.old }
+    ensures { TurnsWithRest space.old space.new (with_counts (tables_of space.old) runs frees) 0 0 }
+{
+    space.put_cursor(RUN_CURSOR, 0);
+    space.put_cursor(RUN_COUNT, u64::from(runs));
+    space.put_cursor(FREE_BLOCK_CURSOR, 0);
+    space.put_cursor(FREE_BLOCK_COUNT, u64::from(frees));
+    space.rest_next = 0;
+    space.rest_end = 0;
+}
+
 /// Lists the runs of all Partly and World blocks, and all Free blocks, in order, and answers how many runs there
 /// are. Nothing is drawn of either table yet, and no lines are left from which an object was placed last.
 pub fn list_runs(space: &mut Space) -> u32
@@ -123,11 +151,6 @@ pub fn list_runs(space: &mut Space) -> u32
     ensures space { IsSpace space.new }
 {
     let (runs, frees) = list_all(space);
-    space.put_cursor(RUN_CURSOR, 0);
-    space.put_cursor(RUN_COUNT, u64::from(runs));
-    space.put_cursor(FREE_BLOCK_CURSOR, 0);
-    space.put_cursor(FREE_BLOCK_COUNT, u64::from(frees));
-    space.rest_next = 0;
-    space.rest_end = 0;
+    begin_lists(space, runs, frees);
     runs
 }

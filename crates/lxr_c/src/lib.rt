@@ -190,6 +190,18 @@ fn load_aside(heap: &mut Handle, dest: u32, base: u32, index: u32) -> u32
 pub extern "C" fn lxr_store(heap: &mut Handle, base: u32, index: u32, source: u32) -> u32
     ensures { Calls Stores heap.old.block.value heap.new.block.value (asking.store (registers_kept heap.old.block.value) base index source) result }
 {
+    if heap.try_store(base, index, source) {
+        return Code::Done.number();
+    }
+    store_aside(heap, base, index, source)
+}
+
+/// What `lxr_store` does where something may stand against it.
+#[cold]
+#[inline(never)]
+fn store_aside(heap: &mut Handle, base: u32, index: u32, source: u32) -> u32
+    ensures { Calls Stores heap.old.block.value heap.new.block.value (asking.store (registers_kept heap.old.block.value) base index source) result }
+{
     let request = requests::set_reference(heap.registers(), base, index, source);
     answered(heap.store(request))
 }

@@ -2,6 +2,7 @@ pub mod RunLemmas
 pub mod StepLemmas
 pub mod SideLemmas
 pub mod PlanLemmas
+pub mod TakenLemmas
 pub mod ElementLemmas
 pub mod LoadLemmas
 pub mod SettleLemmas
@@ -12,3 +13,5 @@ pub mod FillLemmas
 pub mod CopyLemmas
 pub mod RootLemmas
 pub mod OwnLemmas
+pub mod LedLemmas
+pub mod KeptLemmas

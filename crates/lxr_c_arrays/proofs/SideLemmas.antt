@@ -5,6 +5,8 @@ use Rattle.std.proofs.lemmas.Option.{same_Some}
 use Rattle.std.specs.Prelude.{◌==◌, if◌then◌else◌, option_map, slice_get, unwrap_or}
 use Rattle.lxr_layout.specs.declared.Name.{Name}
 use Rattle.lxr_graph.specs.declared.Op.TheVariants as op
+use Rattle.lxr_graph.specs.declared.Reply.{Reply}
+use Rattle.lxr_graph.specs.declared.Reply.TheVariants as reply
 use Rattle.lxr_layout.specs.declared.Shape.{Shape}
 use Rattle.lxr_graph.specs.State.{Object, State, object_at, refs_of, register_at, values_of}
 use Rattle.lxr_graph.specs.Step.{get_from, got}
@@ -14,6 +16,7 @@ use Rattle.lxr_large_model.specs.State.{LargeState, body_of}
 use Rattle.lxr_large_model.specs.Step.{large_step}
 use Rattle.lxr_heap.specs.Looking.{body_blocks, shape_held}
 use Rattle.lxr_direct.specs.Operating.{shape_found}
+use Rattle.lxr_direct.specs.Trying.{IsMissing}
 use Rattle.lxr_c_many.specs.Applying.{word_of}
 use Rattle.lxr_c_many.specs.Fields.{words_in}
 use Rattle.lxr_c_arrays.specs.declared.side.Side.TheVariants as side
@@ -31,6 +34,12 @@ get_word s i (Some n) = got_word (slice_get (values_of (object_at s.graph n)) i)
 
 pub get_tells : (s : LargeState) (base i : ℕ) → word_of (large_step s (large_op.Small (op.Get base i))).1 ≡ slice_get (unwrap_or (words_in s base) []) i
 get_tells s base i = get_word s.small i (register_at s.small 1 base)
+
+-- none is told where there is none
+pub missing_word : (r : Reply) → IsMissing r → word_of (large_reply.Small r) ≡ None
+missing_word reply.Bad such = refl
+missing_word reply.Range such = refl
+missing_word r such = absurd such
 
 -- ---- references
 

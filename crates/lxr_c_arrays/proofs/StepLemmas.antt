@@ -1,8 +1,13 @@
 -- One operation, as the heap does it, is a list of one.
-use Rattle.std.proofs.Common.{◌≡◌, ℕ, refl, sym, ap, List, [], ◌∷◌}
+use Rattle.std.proofs.Common.{◌≡◌, ℕ, refl, sym, ap, subst, List, [], ◌∷◌}
+use Rattle.lxr_graph.specs.declared.Op.{Op}
 use Rattle.lxr_graph.specs.declared.Op.TheVariants as op
+use Rattle.lxr_graph.specs.declared.Reply.{Reply}
 use Rattle.lxr_graph.specs.declared.Reply.TheVariants as reply
+use Rattle.lxr_heap.specs.declared.heap.Heap.{Heap}
+use Rattle.lxr_heap.specs.Acting.{IsReplied}
 use Rattle.lxr_heap.specs.Holding.{IsHeapOf}
+use Rattle.lxr_heap.specs.Trying.{Does, IsDoing}
 use Rattle.lxr_large_model.specs.declared.LargeOp.{LargeOp}
 use Rattle.lxr_large_model.specs.declared.LargeOp.TheVariants as large_op
 use Rattle.lxr_large_model.specs.declared.LargeReply.{LargeReply}
@@ -10,10 +15,11 @@ use Rattle.lxr_large_model.specs.declared.LargeReply.TheVariants as large_reply
 use Rattle.lxr_large_model.specs.History.{LargeItem, Called}
 use Rattle.lxr_c_base.specs.declared.codes.Code.TheVariants as code
 use Rattle.lxr_c_base.specs.Codes.{code_of}
+use Rattle.lxr_c_base.specs.Requests.{IsQuiet}
 use Rattle.lxr_c_heap.specs.declared.host.HostHeap.{HostHeap}
-use Rattle.lxr_c_heap.specs.Hosting.{IsHostOf, Makes, Replies, Stores}
+use Rattle.lxr_c_heap.specs.Hosting.{IsHostOf, Makes, Replies, Stores, all_registers_in}
 use Rattle.lxr_c_heap.proofs.RegisterLemmas.{known, made_all, made_keeps, replied_all, replied_keeps, stored_all, stored_keeps}
-use Rattle.lxr_c_heap.proofs.RoomLemmas.{SomeHistory}
+use Rattle.lxr_c_heap.proofs.RoomLemmas.{SomeHistory, quiet_same}
 use Rattle.lxr_c_many.specs.declared.asked.Asked.TheVariants as asked
 use Rattle.lxr_c_many.specs.Applying.{told_by}
 use Rattle.lxr_c_arrays.specs.Running.{InTurn, SameRegisters}
@@ -46,6 +52,28 @@ module _ (x y : HostHeap) (o : LargeOp) (r : LargeReply) where
 
   pub replied_same : SomeHistory x → ((h : List LargeItem) → IsHeapOf x.heap h → Replies x y h o r) → SameRegisters x y
   replied_same some replied = record { named = known x _ _ some (λ h is. replied_keeps x y h o r (replied h is.heap)); all = known x _ _ some (λ h is. replied_all x y h o r (replied h is.heap)) }
+
+-- a load that finds a reference is replied success
+doing_done : (r : Reply) → IsDoing r → code_of (large_reply.Small r) ≡ code.Done
+doing_done (reply.Loaded held) such = refl
+doing_done reply.Put such = refl
+doing_done reply.Stored such = refl
+doing_done r such = absurd such
+
+module _ (x : HostHeap) (y : Heap) (o : Op) (quiet : IsQuiet (all_registers_in x) (large_op.Small o)) where
+  abbrev after : HostHeap
+  after = record x { heap = y }
+
+  tried_replies : (r : Reply) → ((h : List LargeItem) → IsHeapOf x.heap h → IsReplied x.heap y h (large_op.Small o) (large_reply.Small r)) → (h : List LargeItem) → IsHeapOf x.heap h
+      → Replies x after h (large_op.Small o) (large_reply.Small r)
+  tried_replies r each h is = record { heap = each h is; rest = quiet_same x y (large_op.Small o) (large_reply.Small r) quiet }
+
+  pub tried_in_turn : Does x.heap y o → InTurn x (asked.Reply (large_op.Small o) ∷ []) after code.Done
+  tried_in_turn (r, such, each) =
+      subst (InTurn x (asked.Reply (large_op.Small o) ∷ []) after) (doing_done r such) (replied_in_turn x after (large_op.Small o) (large_reply.Small r) (tried_replies r each))
+
+  pub tried_same : SomeHistory x → Does x.heap y o → SameRegisters x after
+  tried_same some (r, such, each) = replied_same x after (large_op.Small o) (large_reply.Small r) some (tried_replies r each)
 
 -- a register that becomes nil is replied success, always
 pub nil_done : (x y : HostHeap) (h : List LargeItem) (dest : ℕ) (r : LargeReply) → Replies x y h (large_op.Small (op.Nil dest)) r → code_of r ≡ code.Done

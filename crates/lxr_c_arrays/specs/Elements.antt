@@ -7,6 +7,7 @@ use Rattle.lxr_large_model.specs.History.{LargeItem, large_state}
 use Rattle.lxr_graph.specs.Renewing.{renewed_held}
 use Rattle.lxr_large_model.specs.Renewing.{renewed_large}
 use Rattle.lxr_large_model.specs.State.{LargeState}
+use Rattle.lxr_c_base.specs.declared.codes.Code.{Code}
 use Rattle.lxr_c_base.specs.declared.codes.Code.TheVariants as code
 use Rattle.lxr_c_heap.specs.declared.host.HostHeap.{HostHeap}
 use Rattle.lxr_c_heap.specs.Hosting.{IsHostOf, registers_in}
@@ -189,8 +190,8 @@ CopiesReplaceElements =
 
 -- ---- new roots
 
--- A root was made, from state s to u: its elements are nil, each other register that the host may name holds what it held, what that refers to has the
--- references and data words that it had, and each body is as it was. All that is so by the names of the renewals.
+-- A root was made, from state s to u: its elements are nil, each other register that the host may name holds what it held, what that refers to has
+-- the references and data words that it had, and each body is as it was. All that is so by the names of the renewals.
 pub record HasMadeRoot (registers : ℕ) (wanted : NewArray) (s u : LargeState) : Type 0 where
   pub elements : elements_at u wanted.dest ≡ Some (replicate wanted.length None)
   pub renewals : List (List Name)
@@ -204,3 +205,25 @@ abbrev pub NewRootsHaveNils : Type 0
 NewRootsHaveNils =
     (x y : HostHeap) (h : List LargeItem) (wanted : NewArray) → IsHostOf x h → IsNewArray (registers_in x) wanted → PART < wanted.length → MakesArray x y h wanted code.Done
     → (k : List LargeItem) × IsHostOf y k × HasMadeRoot (registers_in x) wanted (large_state h) (large_state k)
+
+-- ---- what stays, whatever a call tells
+
+-- Each register that the host may name, but one that a call gives something, holds what it held, and each body is as it was, from state s to u. All
+-- that is so by the names of the renewals.
+pub record HasKept (registers : ℕ) (given : Option ℕ) (s u : LargeState) : Type 0 where
+  pub renewals : List (List Name)
+  pub held : (r : ℕ) → r < registers → Some r ≢ given → register_at u.small 1 r ≡ as_renamed renewals (register_at s.small 1 r)
+  pub bodies : u.large ≡ (with_renewals renewals s).large
+
+-- after a call
+abbrev pub KeepsRegisters : HostHeap → List LargeItem → HostHeap → Option ℕ → Type 0
+KeepsRegisters x h y given = (k : List LargeItem) × IsHostOf y k × HasKept (registers_in x) given (large_state h) (large_state k)
+
+-- so it is at each call on arrays, whole or in parts, whatever it tells: one that makes an array or loads gives a register something, and no other
+-- does
+pub record ArraysKeepRegisters : Type 0 where
+  pub made : (x y : HostHeap) (h : List LargeItem) (wanted : NewArray) (told : Code) → IsHostOf x h → IsNewArray (registers_in x) wanted → MakesArray x y h wanted told → KeepsRegisters x h y (Some wanted.dest)
+  pub loaded : (x y : HostHeap) (h : List LargeItem) (index : ℕ) (pair : Pair) (told : Code) → IsHostOf x h → IsPair (registers_in x) pair → LoadsElement index x y h pair told → KeepsRegisters x h y (Some pair.other)
+  pub stored : (x y : HostHeap) (h : List LargeItem) (index : ℕ) (pair : Pair) (told : Code) → IsHostOf x h → IsPair (registers_in x) pair → StoresElement index x y h pair told → KeepsRegisters x h y None
+  pub filled : (x y : HostHeap) (h : List LargeItem) (first count : ℕ) (pair : Pair) (told : Code) → IsHostOf x h → IsPair (registers_in x) pair → FillsElements first count x y h pair told → KeepsRegisters x h y None
+  pub copied : (x y : HostHeap) (h : List LargeItem) (at first count : ℕ) (pair : Pair) (told : Code) → IsHostOf x h → IsPair (registers_in x) pair → CopiesElements at first count x y h pair told → KeepsRegisters x h y None

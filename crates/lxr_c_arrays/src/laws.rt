@@ -1,7 +1,7 @@
 //! What the elements of an array are after a call. The functions do nothing: the contract of each is a law of what the calls do.
 ghost use Rattle.lxr_c_arrays.specs.Elements.{LengthCountsElements, LoadsGiveElements, StoresReachParts, StoresReplaceElements};
-ghost use Rattle.lxr_c_arrays.specs.Elements.{CopiesReplaceElements, FillsReplaceElements, NewElementsAreNil, NewRootsHaveNils};
-ghost use Rattle.lxr_c_arrays.specs.Own.{ArraysKeepNil};
+ghost use Rattle.lxr_c_arrays.specs.Elements.{ArraysKeepRegisters, CopiesReplaceElements, FillsReplaceElements, NewElementsAreNil, NewRootsHaveNils};
+ghost use Rattle.lxr_c_arrays.specs.Own.{ArraysKeepNil, OwnStayNil};
 
 /// An array is as long as it has elements.
 pub fn length_counts_elements()
@@ -49,4 +49,14 @@ pub fn new_roots_have_nils()
 /// The library's own registers are nil after each call on arrays, where they were before it.
 pub fn arrays_keep_nil()
     ensures { ArraysKeepNil }
+{}
+
+/// They are nil at the opening of a heap, and so after each operation, pause, setting and call on arrays that a host makes on it.
+pub fn own_stay_nil()
+    ensures { OwnStayNil }
+{}
+
+/// Each call on arrays, also in roots and whatever it tells, leaves the host's registers, but for the one that it gives something, and bodies.
+pub fn arrays_keep_registers()
+    ensures { ArraysKeepRegisters }
 {}

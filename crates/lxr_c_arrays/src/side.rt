@@ -7,16 +7,14 @@ ghost use Rattle.lxr_c_arrays.specs.Sides.{HasIndex, IsSide};
 
 use lxr_c_base::Code;
 use lxr_c_base::requests::index_of;
-use lxr_c_many::word_of;
-use lxr_graph::Op;
 use lxr_heap::LargeHeap;
-use lxr_large_model::LargeOp;
+use lxr_layout::MOST_FIELDS;
 
 /// How many elements a part has: as many as an object has references at most.
-pub const PART: u32 = 1_023;
+pub const PART: u32 = MOST_FIELDS as u32;
 
 /// How many elements an array has at most: as many parts as an object has references at most.
-pub const MOST_ELEMENTS: u32 = 1_046_529;
+pub const MOST_ELEMENTS: u32 = PART * PART;
 
 /// An array by its registers.
 #[derive(Clone, Copy, Debug, PartialEq, Eq)]
@@ -57,8 +55,7 @@ pub(crate) fn root_length(heap: &LargeHeap, base: u8) -> Option<u32>
     ensures told { (h : List LargeItem) → IsHeapOf heap.now h → result ≡ sides.root_length (large_state h) base }
     ensures few { IfSome result (λ n. n ≤ MOST_ELEMENTS) }
 {
-    let reply = heap.see(LargeOp::Small(Op::Get { base, index: 0 }));
-    match word_of(reply) {
+    match heap.try_get(base, 0) {
         None => None,
         Some(word) => Some(word.min(u64::from(MOST_ELEMENTS)) as u32),
     }

@@ -34,6 +34,22 @@ pub(crate) fn load(heap: &mut HostHeap, dest: u8, base: u8, index: u16) -> Code
     ensures same { SameRegisters heap.old heap.new }
     ensures serving { IsServing heap.new }
 {
+    if heap.heap.try_load(dest, base, u32::from(index)) {
+        return Code::Done;
+    }
+    load_aside(heap, dest, base, index)
+}
+
+/// What `load` does where something may stand against it.
+#[cold]
+#[inline(never)]
+fn load_aside(heap: &mut HostHeap, dest: u8, base: u8, index: u16) -> Code
+    requires serving { IsServing heap.old }
+    requires registers { (dest < all_registers_in heap.old) × (base < all_registers_in heap.old) }
+    ensures runs { InTurn heap.old (load_of dest base index ∷ []) heap.new result }
+    ensures same { SameRegisters heap.old heap.new }
+    ensures serving { IsServing heap.new }
+{
     code_of(heap.reply(LargeOp::Small(Op::Load { dest, base, index })))
 }
 

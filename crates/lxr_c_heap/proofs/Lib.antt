@@ -6,3 +6,4 @@ pub mod RegisterLemmas
 pub mod CallLemmas
 pub mod CrossingLemmas
 pub mod TryingLemmas
+pub mod AsideLemmas

@@ -34,7 +34,7 @@ stays_at : (few : Bool) (i : ℕ) → few ≡ true → cond few i 65535 ≡ i
 stays_at true i e = refl
 stays_at false i e = absurd (cc)
 
-index_stays : (i : ℕ) → i < 65536 → index_of i ≡ i
+pub index_stays : (i : ℕ) → i < 65536 → index_of i ≡ i
 index_stays i few = stays_at (nat_lt i 65536) i (let below : nat_lt i 65536 ≡ true = grind (arith, few) in below)
 
 module _ (n base index b : ℕ) (named : register_of n base ≡ Ok b) (few : index < 65536) where
@@ -85,9 +85,10 @@ finds_field before x request o word had is each = subst (λ k. Finds k request w
 -- ---- what is done
 
 -- the program gets 0
-doing_zero : (r : Reply) → IsDoing r → 0 ≡ answered (Ok (large_reply.Small r))
+pub doing_zero : (r : Reply) → IsDoing r → 0 ≡ answered (Ok (large_reply.Small r))
 doing_zero (reply.Loaded held) such = refl
 doing_zero reply.Put such = refl
+doing_zero reply.Stored such = refl
 doing_zero r such = absurd such
 
 module _ (x : HostHeap) (y : Heap) (o : Op) (quiet : IsQuiet (all_registers_in x) (large_op.Small o)) where

@@ -1,7 +1,9 @@
 //! The heap of a program, with the pauses that it makes by itself.
-ghost use Rattle.std.specs.Prelude.{◌≡◌, ◌+◌, ◌-◌, ◌*◌, ◌^◌, ◌<◌, ◌≤◌, ◌↔◌, false, List, IsTrue, IfOk};
+ghost use Rattle.std.specs.Prelude.{◌≡◌, ◌+◌, ◌-◌, ◌*◌, ◌^◌, ◌<◌, ◌≤◌, ◌↔◌, ◌⊎◌, false, List, IsTrue, IfOk};
+ghost use Rattle.lxr_graph.specs.declared.Op.TheVariants as op;
 ghost use Rattle.lxr_large_model.specs.History.{LargeItem};
 ghost use Rattle.lxr_heap.specs.Holding.{IsHeapOf};
+ghost use Rattle.lxr_heap.specs.Trying.{Does, StaysAside};
 ghost use Rattle.lxr_heap.specs.Acting.{IsCallable, MayBeCalled, WantsNoPause};
 ghost use Rattle.lxr_c_heap.specs.Hosting.{Acts, HasRoom, IsAtEnd, IsDue, IsHostOf, IsOpened, IsServing, IsWithin, Makes, Pauses, PausesAsked, PausesWhere, Replies, SettlesAt, Stores, all_registers_in, exceeds_room as is_exceeding};
 ghost use Rattle.lxr_c_heap.specs.Calling.{SetsGrow, SetsRoom};
@@ -248,6 +250,25 @@ impl HostHeap {
     {
         self.settle(ENDS);
         self.act(op)
+    }
+
+    /// Stores a reference where nothing stands against it: the heap isn't at an end, there is such a reference, and nothing has to be recorded.
+    /// Whether it did.
+    #[inline(always)]
+    pub(crate) fn try_store(&mut self, base: u8, index: u32, source: u8) -> bool
+        requires base { base < all_registers_in self.old }
+        requires source { source < all_registers_in self.old }
+        ensures early { IsTrue result → ¬ IsAtEnd ENDS self.old }
+        ensures done { IsTrue result → Does self.old.heap self.new.heap (op.Store base index source) }
+        ensures rest { self.new ≡ record self.old { heap = self.new.heap } }
+        ensures small { IsTrue result → index < 2 ^ 16 }
+        ensures aside { result ≡ false → IsAtEnd ENDS self.old ⊎ ((h : List LargeItem) → IsHeapOf self.old.heap h → StaysAside h base index source) }
+        ensures unchanged { result ≡ false → self.new ≡ self.old }
+    {
+        if self.is_at_end(ENDS) {
+            return false;
+        }
+        self.heap.try_store(base, index, source)
     }
 
     /// Makes an object.

@@ -4,9 +4,9 @@
 ghost use Rattle.std.specs.Prelude.{◌≡◌, ◌<◌, ◌^◌, false, IfNone, IfSome, IsTrue};
 ghost use Rattle.lxr_c_base.specs.Requests as asking;
 ghost use Rattle.lxr_c_heap.specs.Calling.{Calls};
-ghost use Rattle.lxr_c_heap.specs.Hosting.{Replies};
+ghost use Rattle.lxr_c_heap.specs.Hosting.{Replies, Stores};
 ghost use Rattle.lxr_c_heap.specs.Keeping.{registers_kept};
-ghost use Rattle.lxr_c_heap.specs.Trying.{Finds, Misses};
+ghost use Rattle.lxr_c_heap.specs.Trying.{Finds, Misses, StaysAside};
 
 use crate::handle::Handle;
 use lxr_c_base::requests::register_of;
@@ -52,6 +52,22 @@ impl Handle {
         match register_of(self.registers(), base) {
             Err(_) => false,
             Ok(base) => self.block.lend().heap.try_put(base, index, value),
+        }
+    }
+    /// Reference `index` of the object that `base` holds becomes what `source` holds, where there is nothing to do before it. Whether it did.
+    #[inline(always)]
+    pub fn try_store(&mut self, base: u32, index: u32, source: u32) -> bool
+        ensures done { IsTrue result → Calls Stores self.old.block.value self.new.block.value (asking.store (registers_kept self.old.block.value) base index source) 0 }
+        ensures aside { result ≡ false → index < 2 ^ 16 → StaysAside self.old.block.value (asking.store (registers_kept self.old.block.value) base index source) }
+        ensures unchanged { result ≡ false → self.new.block.value ≡ self.old.block.value }
+    {
+        let registers = self.registers();
+        match register_of(registers, base) {
+            Err(_) => false,
+            Ok(base) => match register_of(registers, source) {
+                Err(_) => false,
+                Ok(source) => self.block.lend().try_store(base, index, source),
+            },
         }
     }
 }

@@ -13,3 +13,4 @@ pub mod WantedLemmas
 pub mod MakingLemmas
 pub mod ApplyLemmas
 pub mod CallLemmas
+pub mod AtOnceLemmas

@@ -6,3 +6,4 @@ pub mod Calling
 pub mod Making
 pub mod Applying
 pub mod Clearing
+pub mod Trying

@@ -11,13 +11,14 @@ use Rattle.lxr_shared_heap.specs.declared.heap.Paused.TheVariants as paused
 use Rattle.lxr_shared_heap.specs.declared.heap.Resumed.{Resumed}
 use Rattle.lxr_shared_heap.specs.declared.heap.Resumed.TheVariants as resumed
 use Rattle.lxr_shared_heap.specs.declared.settings.Settings.{Settings}
+use Rattle.lxr_shared_heap.specs.declared.settings.TheConstants.{RUNS_LISTED}
 use Rattle.lxr_shared_heap.specs.Heaps.{Heaped, IsAtRest, IsHeapOf, IsOpened, Pauses, Resumes, free_at, most_asked}
 use Rattle.lxr_shared_heap.specs.Settings.{AreSettings}
 use Rattle.lxr_c_base.specs.declared.codes.Code.{Code}
 use Rattle.lxr_c_base.specs.declared.codes.Code.TheVariants as code
 use Rattle.lxr_c_shared.specs.declared.owned.Owned.{Owned}
 use Rattle.lxr_c_shared.specs.declared.owned.Owned.TheVariants as owned
-use Rattle.lxr_c_shared.specs.declared.settings.TheConstants.{FIRST_WISHES_BYTES, WISHES_BYTES}
+use Rattle.lxr_c_shared.specs.declared.settings.TheConstants.{FIRST_WISHES_BYTES, SECOND_WISHES_BYTES, WISHES_BYTES}
 use Rattle.lxr_c_shared.specs.declared.settings.Wishes.{Wishes}
 use Rattle.lxr_c_shared.specs.declared.sharing.OfPause.{OfPause}
 use Rattle.lxr_c_shared.specs.declared.sharing.OfPause.TheVariants as of
@@ -27,13 +28,22 @@ use Rattle.lxr_c_shared.specs.Holding.{MayHold}
 
 -- ---- opening
 
+-- settings of their size say how many blocks are evacuated, and how many registers there are
+abbrev pub has_registers : Wishes → Bool
+has_registers w = w.size == WISHES_BYTES || w.size == SECOND_WISHES_BYTES
+
 -- how many blocks a trace is to evacuate at most: an eighth of all where settings of version 0.2 don't say it; none where their size isn't known
 abbrev pub evacuate_of : Wishes → Option ℕ
-evacuate_of w = if w.size == WISHES_BYTES then Some w.evacuate else (if w.size == FIRST_WISHES_BYTES then Some (w.blocks / 8) else None)
+evacuate_of w = if has_registers w then Some w.evacuate else (if w.size == FIRST_WISHES_BYTES then Some (w.blocks / 8) else None)
 
 -- how many registers each thread may name: the fewest where settings of version 0.2 don't say it, or where they say 0
 abbrev pub registers_of : Wishes → ℕ
-registers_of w = if w.size == WISHES_BYTES && nat_lt 0 w.registers then w.registers else LEAST_REGISTERS
+registers_of w = if has_registers w && nat_lt 0 w.registers then w.registers else LEAST_REGISTERS
+
+-- how many runs of free lines are listed after a pause at most, in a heap of more than 1,024 blocks: 65,536 where settings don't say it, or where
+-- they say 0
+abbrev pub runs_of : Wishes → ℕ
+runs_of w = if w.size == WISHES_BYTES && nat_lt 0 w.runs then w.runs else RUNS_LISTED
 
 -- The settings that are wished for, where so many blocks are to be evacuated; none where there are more threads or helpers than any heap has, or more
 -- registers than any thread. No names are told.
@@ -41,7 +51,7 @@ abbrev pub settings_with : Wishes → Option ℕ → Option Settings
 settings_with w None = None
 settings_with w (Some evacuate) =
     if nat_lt 255 w.mutators || (nat_lt 8 w.helpers || nat_lt REGISTERS (registers_of w)) then None
-    else Some (record { blocks = w.blocks; mutators = w.mutators; helpers = w.helpers; log = w.log; remember = w.remember; registers = registers_of w; evacuate = evacuate; every = w.every; trace = w.trace; within = w.within; names = false })
+    else Some (record { blocks = w.blocks; mutators = w.mutators; helpers = w.helpers; log = w.log; remember = w.remember; registers = registers_of w; evacuate = evacuate; every = w.every; trace = w.trace; within = w.within; runs = runs_of w; names = false })
 
 -- the settings that are wished for; none where their size isn't known either
 abbrev pub settings_of : Wishes → Option Settings

@@ -36,7 +36,7 @@ pub take_one_more : {X : Type 0} (ys : List X) (n : ℕ) (x : X) → slice_get y
 take_one_more ys n x e =
     ap (λ z. take z ys) (let k : n + 1 ≡ suc n = omega arith in k) ∙ take-suc ys n x (slice_get_within ys n x e) ∙ ap (λ z. take n ys ++ z ∷ []) (get_or_from_slice_get ys n x x e)
 
--- the next item is pushed behind a beginning of a list
+-- the next item is pushed after a beginning of a list
 pub push_next : {X : Type 0} (l now : Roomy X) (ys : List X) (n : ℕ) (x : X) → now ≡ with_items l (l.items ++ take n ys) → slice_get ys n ≡ Some x → pushed now x ≡ with_items l (l.items ++ take (n + 1) ys)
 push_next l now ys n x is e =
     ap (λ z. pushed z x) is ∙ ap (with_items l) (append_assoc l.items (take n ys) (x ∷ []) ∙ ap (λ z. l.items ++ z) (sym (take_one_more ys n x e)))

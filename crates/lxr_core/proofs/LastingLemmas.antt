@@ -110,7 +110,7 @@ module _ (P : Mutating → Type 0) (lasts : Lasts P) where
   pub lasts_run : (core : Core AnyActor) (schedule : List Event) → Each P (mutators_in core.actors) → Each P (mutators_in (run any_machine core schedule).actors)
   lasts_run core schedule each = mutators_hold (run any_machine core schedule).actors (all_hold core schedule (each_holds core.actors each))
 
-  -- ---- what comes before and behind an epoch
+  -- ---- what comes before and after an epoch
 
   started_holds : (a : AnyActor) (registers : List Place) → Holds a → Holds (started_again a registers)
   started_holds (any.Mutator m) registers holds = lasts.begins m registers holds

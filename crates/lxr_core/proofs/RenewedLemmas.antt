@@ -1,4 +1,4 @@
--- A mutator that rests for a history rests behind a renewal of names too, once it begins anew: with no calls, no replies, and its thread's objects.
+-- A mutator that rests for a history rests after a renewal of names too, once it begins anew: with no calls, no replies, and its thread's objects.
 use Rattle.std.proofs.Common.{◌≡◌, ◌≢◌, ℕ, ◌≤◌, arith, Bool, false, true, refl, ◌∙◌, sym, inr, List, [], ◌∷◌, length, length-drop}
 use Rattle.std.specs.Prelude.{Some}
 use Rattle.std.proofs.lemmas.List.Elements.{All-drop}
@@ -61,7 +61,7 @@ none_told : (c : Bool) → all_told_as c [] ≡ []
 none_told true = refl
 none_told false = refl
 
--- it rests behind the renewal
+-- it rests after the renewal
 pub renewed_rests : (l : Limits) (turns : ℕ) (h : List Item) (ns : List Name) (t before : ℕ) (m : Mutating) → RestsAfter l turns h t m → ¬ IsWaiting m → m.end ≢ Some ends.Ended → before ≤ MOST_GRANULES
     → before ≡ objects_before t (Renew ns ∷ h) → RestsAfter l turns (Renew ns ∷ h) t (renewed m before)
 renewed_rests l turns h ns t before m is idle goes_on few counts =

@@ -41,7 +41,7 @@ abbrev pub places_in : MutatorPhase → Beginning → EpochState → Mutating �
 places_in (phase.Heading place) b s m = placed s.at (next_name (moment_of b s).state.graph m.thread) place.0
 places_in p b s m = s.at
 
--- the places of objects behind the step of a mutator
+-- the places of objects after the step of a mutator
 abbrev pub places_after : Beginning → EpochState → Mutating → Name → ℕ
 places_after b s m = places_in m.phase b s m
 

@@ -7,7 +7,7 @@ use Rattle.std.proofs.lemmas.Bool.Decides.{leb_tells}
 use Rattle.std.proofs.lemmas.Option.{slice_get-get_or}
 use Rattle.std.proofs.lemmas.List.{length-append}
 use Rattle.std.proofs.lemmas.List.Sorted.{IsPermutation-append_comm, IsPermutation-append_right, IsPermutation-trans}
-use Rattle.lxr_layout.specs.declared.TheConstants.{REGISTERS}
+use Rattle.lxr_layout.specs.declared.TheConstants.{REGISTERS, WORDS_IN_BLOCK}
 use Rattle.lxr_layout.specs.declared.LogEntry.{LogEntry}
 use Rattle.lxr_layout.specs.declared.Name.{Name}
 use Rattle.lxr_layout.specs.declared.Place.{Place}
@@ -22,7 +22,7 @@ use Rattle.lxr_graph.specs.Step.{step}
 use Rattle.lxr_graph.proofs.RowLemmas.{object_at-with_reference, object_at-with_value}
 use Rattle.lxr_image.specs.declared.space.Space.{Space}
 use Rattle.lxr_image.specs.Tables.{Tables, changed, tables_in}
-use Rattle.lxr_image.specs.Spaces.{IsSpace, Turns, tables_of}
+use Rattle.lxr_image.specs.Spaces.{IsInUsedBlock, IsSpace, Turns, tables_of}
 use Rattle.lxr_image.specs.Image.{IsImage, Stands, place_word}
 use Rattle.lxr_image.specs.ImageLaws.{with_heap}
 use Rattle.lxr_image.proofs.ImageLemmas.{Rewrites, put_keeps_image, rewrites, store_keeps_image, member_stands}
@@ -54,6 +54,16 @@ recorded_limits s mid place i (inr is) = ap (λ z. z.limits) is.rest
 pub recorded_space : (s mid : Space) (place : Place) (i : ℕ) → Records s mid place i true → IsSpace s → IsSpace mid
 recorded_space s mid place i (inl (clear, same)) space = subst IsSpace (sym same) space
 recorded_space s mid place i (inr is) space = space_alike s mid (ap (λ z. z.limits) is.rest) (ap (λ z. z.size) is.tables) space
+
+-- and blocks that are in use
+pub recorded_used : (s mid : Space) (place : Place) (i w : ℕ) → Records s mid place i true → IsInUsedBlock s w → IsInUsedBlock mid w
+recorded_used s mid place i w (inl (clear, same)) used = subst (λ z. IsInUsedBlock z w) (sym same) used
+recorded_used s mid place i w (inr is) used = record {
+  other = used.other;
+  there = subst (λ z. used.other < WORDS_IN_BLOCK * z) (sym (ap (λ (z : Space). z.limits.blocks) is.rest)) used.there;
+  block = used.block;
+  some = λ zero. used.some (sym (ap (λ (z : Tables). z.heap used.other) is.tables) ∙ zero);
+}
 
 -- a step replies so, by a thread that there is
 stepped : (s : Space) (g : AbstractState) (t serial : ℕ) (o : Op) (r : Reply) → MayOperate s g t serial → (step g.moment.state t o).1 ≡ r → ((step g.moment.state t o).1 ≡ r) × (t < length g.moment.state.graph) × (1 ≤ t)

@@ -1,18 +1,20 @@
 -- What a space at rest says of what registers and references hold: places of the heap, at which headers tell names and shapes.
-use Rattle.std.proofs.Common.{◌≡◌, ◌≢◌, ℕ, zero, suc, ◌+◌, ◌-◌, ◌*◌, ◌<◌, ◌≤◌, refl, sym, ap, subst, ◌∙◌, inl, inr, arith, true, false, nat_eq, List, [], ◌∷◌, length, get_or}
+use Rattle.std.proofs.Common.{◌≡◌, ◌≢◌, ℕ, zero, suc, ◌+◌, ◌-◌, ◌*◌, ◌/◌, ◌<◌, ◌≤◌, refl, sym, ap, subst, ◌∙◌, inl, inr, arith, true, false, nat_eq, List, [], ◌∷◌, length, get_or}
 use Rattle.std.specs.Prelude.{◌↔◌, Option, Some, None, IsTrue, slice_get}
 use Rattle.std.proofs.lemmas.Bool.Decides.{eqb_tells}
 use Rattle.lxr_layout.specs.declared.TheConstants.{GRANULES_IN_BLOCK, MOST_BLOCKS, REGISTERS, WORDS_IN_BLOCK}
+use Rattle.lxr_layout.specs.declared.Header.{Header}
 use Rattle.lxr_layout.specs.declared.Header.TheVariants as header
 use Rattle.lxr_layout.specs.declared.Name.{Name}
 use Rattle.lxr_layout.specs.declared.Place.{Place}
 use Rattle.lxr_layout.specs.declared.Shape.{Shape}
-use Rattle.lxr_layout.specs.Objects.{header_of}
-use Rattle.lxr_layout.specs.Places.{IsPlace, first_word}
+use Rattle.lxr_layout.specs.Objects.{header_of, word_count}
+use Rattle.lxr_layout.specs.Places.{IsPlace, first_word, granule_of}
 use Rattle.lxr_graph.specs.Names.{has}
-use Rattle.lxr_graph.specs.State.{Object, object_at, register_at, register_index, shape_of}
+use Rattle.lxr_graph.specs.State.{Object, object_at, register_at, register_index, shape_of, world_name}
 use Rattle.lxr_image.specs.declared.space.Space.{Space}
-use Rattle.lxr_image.specs.Spaces.{tables_of}
+use Rattle.lxr_image.specs.Spaces.{IsInUsedBlock, tables_of}
+use Rattle.lxr_image.specs.Reads.{slots_of}
 use Rattle.lxr_image.specs.Image.{ArePlacesOf, Stands, place_word}
 use Rattle.lxr_image.proofs.ImageLemmas.{words_cover, words_even}
 use Rattle.lxr_invariant.specs.AbstractState.{AbstractState, members}
@@ -154,6 +156,66 @@ never_moved s g p q v is some told =
 pub none_moved : (s : Space) (g : AbstractState) (p q : Place) (v : Option Name) → IsPlaceOf s g p v → p.0 ≢ 0 → header_of ((tables_of s).heap (first_word p.0)) ≡ header.Moved q → v ≡ None
 none_moved s g p q v is some told = absurd (never_moved s g p q v is some told)
 
+-- ---- blocks that are in use
+
+-- the shape that 0 tells as a header
+abbrev bare : Shape
+bare = record { refs = 0; values = 0 }
+
+-- how many data words a header tells
+abbrev values_of : Header → ℕ
+values_of (header.Object n s) = s.values
+values_of (header.Moved q) = 0
+
+no_fields : (refs values : ℕ) → 0 ≡ refs → 0 ≡ values → 1 ≤ refs + values → ⊥
+no_fields refs values a b some = omega (arith, a, b, some)
+
+-- so a header that tells a field isn't 0
+fields_told : (word : ℕ) (n : Name) (shape : Shape) → header_of word ≡ header.Object n shape → 1 ≤ shape.refs + shape.values → word ≢ 0
+fields_told word n shape told some none =
+    let same : header_of 0 ≡ header.Object n shape = ap header_of (sym none) ∙ told in
+    no_fields shape.refs shape.values (ap slots_of same) (ap values_of same) some
+
+-- nor is that of an object that isn't the world: it tells a name
+named_told : (s : Space) (g : AbstractState) (p : Place) (v : Option Name) → IsPlaceOf s g p v → Has s g p v → p.0 ≢ 1 → (tables_of s).heap (first_word p.0) ≢ 0
+named_told s g p v is h other none =
+    let e : header.Object world_name bare ≡ header.Object h.name (shape_of h.object) = ap header_of (sym none) ∙ h.told in
+    let name : world_name ≡ h.name = cc in
+    other (h.stands ∙ ap g.at (sym name) ∙ is.rests.safepoint.holds.image.world)
+
+-- the words of an object lie in one block
+one_block : (granule granules w : ℕ) → granule / GRANULES_IN_BLOCK ≡ (granule + granules - 1) / GRANULES_IN_BLOCK → 2 * granule ≤ w → w < 2 * (granule + granules) → 2 * granule / WORDS_IN_BLOCK ≡ w / WORDS_IN_BLOCK
+one_block granule granules w same from below = omega (arith, same, from, below)
+
+-- the block of a header is in use, but perhaps the world's
+pub header_used : (s : Space) (g : AbstractState) (p : Place) (v : Option Name) → IsPlaceOf s g p v → p.0 ≢ 0 → p.0 ≢ 1 → IsInUsedBlock s (first_word p.0)
+header_used s g p v is some other =
+    let h : Has s g p v = has_object s g p v is some in
+    let words = object_words s g p v h in
+    record {
+      other = first_word p.0;
+      there = omega (arith, words);
+      block = refl;
+      some = named_told s g p v is h other;
+    }
+
+-- and so is that of a field
+fields_used : (s : Space) (g : AbstractState) (p : Place) (v : Option Name) (h : Has s g p v) (shape : Shape) (w : ℕ) → shape_of h.object ≡ shape → first_word p.0 < w → w ≤ first_word p.0 + shape.refs + shape.values → IsInUsedBlock s w
+fields_used s g p v h shape w shaped behind within =
+    let o : Object = h.object in
+    let words = object_words s g p v h in
+    let cover = words_cover o in
+    let even = words_even o in
+    let refs : length o.refs ≡ shape.refs = ap (λ (z : Shape). z.refs) shaped in
+    let values : length o.values ≡ shape.values = ap (λ (z : Shape). z.values) shaped in
+    let same = subst (λ z. granule_of z / GRANULES_IN_BLOCK ≡ (granule_of z + word_count (shape_of o) / 2 - 1) / GRANULES_IN_BLOCK) (sym h.stands) h.whole.whole.in_block in
+    record {
+      other = first_word p.0;
+      there = omega (arith, words);
+      block = one_block (granule_of p.0) (word_count (shape_of o) / 2) w same (omega (arith, behind)) (omega (arith, within, cover, even, refs, values));
+      some = fields_told _ h.name shape (h.told ∙ ap (header.Object h.name) shaped) (omega (arith, behind, within));
+    }
+
 -- an object lies inside the heap
 pub stands_inside : (s : Space) (g : AbstractState) (v : Option Name) (n : Name) (base : Base) → IsPlaceOf s g base.place v → StandsAt g base.place v n base.shape → LiesInside s base
 stands_inside s g v n base is at =
@@ -167,6 +229,7 @@ stands_inside s g v n base is at =
     record {
       place = is_place s g base.place v is.rests h;
       words = subst (λ z. first_word base.place.0 + 1 + z.refs + z.values ≤ WORDS_IN_BLOCK * s.limits.blocks) (ap shape_of object ∙ sym at.shaped) (object_words s g base.place v h);
+      used = λ w. fields_used s g base.place v h base.shape w (ap shape_of object ∙ sym at.shaped);
     }
 
 -- what is told of a place is what is held there, with its shape

@@ -15,7 +15,7 @@ use Rattle.lxr_graph.specs.Step.{step}
 use Rattle.lxr_image.specs.declared.space.Space.{Space}
 use Rattle.lxr_image.specs.Image.{place_word}
 use Rattle.lxr_image.specs.Registers.{with_row}
-use Rattle.lxr_image.specs.Spaces.{tables_of}
+use Rattle.lxr_image.specs.Spaces.{IsInUsedBlock, tables_of}
 use Rattle.lxr_image.specs.Tables.{Tables}
 use Rattle.lxr_blocks.specs.Placing.{IsFull, IsPlaced}
 use Rattle.lxr_model.specs.Moments.{Moment, after_call}
@@ -74,10 +74,11 @@ abbrev pub named_shape : State → Option Name → Option (Name × Shape)
 named_shape s None = None
 named_shape s (Some n) = Some (n, shape_found (object_at s.graph n))
 
--- an object of this shape at its place lies inside the heap
+-- an object of this shape at its place lies inside the heap, its fields in a block that has a word that isn't 0
 pub record LiesInside (s : Space) (base : Base) : Type 0 where
   pub place : IsPlace base.place
   pub words : first_word base.place.0 + 1 + base.shape.refs + base.shape.values ≤ WORDS_IN_BLOCK * s.limits.blocks
+  pub used : (w : ℕ) → first_word base.place.0 < w → w ≤ first_word base.place.0 + base.shape.refs + base.shape.values → IsInUsedBlock s w
 
 -- some state and serial make it so
 abbrev pub CanOperate : Space → ℕ → Type 0

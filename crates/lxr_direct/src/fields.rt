@@ -48,7 +48,7 @@ pub fn store(space: &mut Space, thread: u8, base: u8, index: u16, source: u8) ->
     if !record_old(space, object.place, index) {
         return Operated::LogFull;
     }
-    space.put_heap(field_word(object.place, index), u64::from(value.0));
+    space.put_used(field_word(object.place, index), u64::from(value.0));
     Operated::Replied(Reply::Stored)
 }
 
@@ -64,7 +64,7 @@ pub fn put(space: &mut Space, thread: u8, base: u8, index: u16, value: u64) -> R
     if object.shape.values <= index {
         return Reply::Range;
     }
-    space.put_heap(data_word(object, index), value);
+    space.put_used(data_word(object, index), value);
     Reply::Put
 }
 
@@ -80,5 +80,5 @@ pub fn get(space: &Space, thread: u8, base: u8, index: u16) -> Reply
     if object.shape.values <= index {
         return Reply::Range;
     }
-    Reply::Got(space.heap_word(data_word(object, index)))
+    Reply::Got(space.used_word(data_word(object, index)))
 }

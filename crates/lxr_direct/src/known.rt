@@ -43,7 +43,7 @@ pub fn get_in(space: &Space, object: HeldObject, index: u16) -> u64
     ensures { (g : AbstractState) (thread serial : ℕ) → MayOperate space.now g thread serial → IsKnown space.now thread object
         → IsDone space.now space.now g thread (op.Get object.register index) (reply.Got result) }
 {
-    space.heap_word(data_word(object.base, index))
+    space.used_word(data_word(object.base, index))
 }
 
 /// Data word `index` of an object becomes `value`.
@@ -55,7 +55,7 @@ pub fn put_in(space: &mut Space, object: HeldObject, index: u16, value: u64)
         → IsDone space.old space.new g thread (op.Put object.register index value) reply.Put }
     ensures known { (thread : ℕ) → IsKnown space.old thread object → IsKnown space.new thread object }
 {
-    space.put_heap(data_word(object.base, index), value);
+    space.put_used(data_word(object.base, index), value);
 }
 
 /// Register `dest` gets reference `index` of an object.
@@ -87,7 +87,7 @@ pub fn store_to(space: &mut Space, thread: u8, object: HeldObject, index: u16, s
     if !record_old(space, object.base.place, index) {
         return false;
     }
-    space.put_heap(field_word(object.base.place, index), u64::from(value.0));
+    space.put_used(field_word(object.base.place, index), u64::from(value.0));
     true
 }
 
@@ -104,5 +104,5 @@ pub fn store_young(space: &mut Space, thread: u8, object: HeldObject, index: u16
     ensures unlogged { (i : ℕ) → is_unlogged space.new object.base.place i ≡ is_unlogged space.old object.base.place i }
 {
     let value = held(space, thread, source);
-    space.put_heap(field_word(object.base.place, index), u64::from(value.0));
+    space.put_used(field_word(object.base.place, index), u64::from(value.0));
 }

@@ -19,7 +19,7 @@ pub use known::{HeldObject, get_in, load_from, look_up, put_in, store_to, store_
 use lxr_graph::Reply;
 pub use operating::{operate, same};
 pub use reading::{Base, is_nil, name_in, object_in};
-pub use trying::{try_get, try_load, try_put};
+pub use trying::{try_get, try_load, try_put, try_store};
 
 /// What has come of an operation.
 #[derive(Clone, Copy, Debug, PartialEq, Eq)]

@@ -5,7 +5,7 @@ ghost use Rattle.lxr_layout.specs.declared.Name.{Name as NameOf};
 ghost use Rattle.lxr_layout.specs.declared.TheConstants.{WORDS_IN_BLOCK};
 ghost use Rattle.lxr_layout.specs.Places.{IsPlace, field_word, first_word, place_in};
 ghost use Rattle.lxr_graph.specs.State.{register_at};
-ghost use Rattle.lxr_image.specs.Spaces.{IsSpace, tables_of};
+ghost use Rattle.lxr_image.specs.Spaces.{IsInUsedBlock, IsSpace, tables_of};
 ghost use Rattle.lxr_invariant.specs.AbstractState.{AbstractState};
 ghost use Rattle.lxr_direct.specs.Operating.{CanOperate, IsBase, IsPlaceOf, LiesInside, MayOperate, StandsAt, Tells, named_shape};
 
@@ -20,6 +20,23 @@ pub struct Base {
     pub shape: Shape,
 }
 
+/// The place of the world.
+const WORLD: Place = Place(1);
+
+/// The header of the object at a place. The note of its block is asked of the world's alone: no other object's header is 0, since it has a name.
+#[inline(always)]
+fn header_at(space: &Space, place: Place) -> u64
+    requires stands { (g : AbstractState) × (v : Option NameOf) × IsPlaceOf space.now g place v }
+    requires some { place.0 ≢ 0 }
+    ensures { result ≡ (tables_of space.now).heap (first_word place.0) }
+{
+    let at = word_of(place);
+    if place.0 == WORLD.0 {
+        return space.heap_word(at);
+    }
+    space.used_word(at)
+}
+
 /// What the header of the object at a place tells; none where the place is nil.
 #[inline(always)]
 fn object_at(space: &Space, place: Place) -> Option<(Name, Shape)>
@@ -29,7 +46,7 @@ fn object_at(space: &Space, place: Place) -> Option<(Name, Shape)>
     if place.0 == 0 {
         return None;
     }
-    match unpack(space.heap_word(word_of(place))) {
+    match unpack(header_at(space, place)) {
         Header::Object(name, shape) => Some((name, shape)),
         Header::Moved(_) => None,
     }
@@ -83,7 +100,7 @@ fn shape_at(space: &Space, place: Place) -> Shape
     requires some { place.0 ≢ 0 }
     ensures { (g : AbstractState) (v : Option NameOf) → IsPlaceOf space.now g place v → (name : NameOf) × StandsAt g place v name result }
 {
-    match unpack(space.heap_word(word_of(place))) {
+    match unpack(header_at(space, place)) {
         Header::Object(_, shape) => shape,
         Header::Moved(_) => unreachable!(),
     }
@@ -110,9 +127,10 @@ pub fn reference_at(space: &Space, place: Place, index: u16) -> Place
     requires space { IsSpace space.now }
     requires place { IsPlace place }
     requires field { field_word place.0 index < WORDS_IN_BLOCK * space.now.limits.blocks }
+    requires used { IsInUsedBlock space.now (field_word place.0 index) }
     ensures { result ≡ place_in ((tables_of space.now).heap (field_word place.0 index)) }
 {
-    Place((space.heap_word(field_word(place, index)) & 0xffff_ffff) as u32)
+    Place((space.used_word(field_word(place, index)) & 0xffff_ffff) as u32)
 }
 
 /// The heap word of data word `index` of an object.

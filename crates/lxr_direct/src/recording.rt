@@ -3,7 +3,7 @@ ghost use Rattle.std.specs.Prelude.{◌*◌, ◌+◌, ◌<◌, ◌↔◌, IsTrue
 ghost use Rattle.lxr_layout.specs.declared.TheConstants.{WORDS_IN_BLOCK};
 ghost use Rattle.lxr_layout.specs.Places.{IsPlace, field_word};
 ghost use Rattle.lxr_image.specs.Opened.{HasRoom};
-ghost use Rattle.lxr_image.specs.Spaces.{IsSpace};
+ghost use Rattle.lxr_image.specs.Spaces.{IsInUsedBlock, IsSpace};
 ghost use Rattle.lxr_direct.specs.Operating.{LogIsFull};
 ghost use Rattle.lxr_direct.specs.Recording.{Records};
 
@@ -29,6 +29,7 @@ pub fn record_old(space: &mut Space, place: Place, index: u16) -> bool
     requires room { HasRoom space.old }
     requires place { IsPlace place }
     requires field { field_word place.0 index < WORDS_IN_BLOCK * space.old.limits.blocks }
+    requires used { IsInUsedBlock space.old (field_word place.0 index) }
     ensures { Records space.old space.new place index result }
 {
     let at = field_word(place, index);

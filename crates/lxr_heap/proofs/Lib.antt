@@ -20,3 +20,4 @@ pub mod RenewingLemmas
 pub mod NumberLemmas
 pub mod WantingLemmas
 pub mod TryingLemmas
+pub mod AsideLemmas

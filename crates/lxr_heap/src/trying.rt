@@ -7,11 +7,11 @@ ghost use Rattle.lxr_large_model.specs.declared.LargeReply.TheVariants as large_
 ghost use Rattle.lxr_large_model.specs.History.{LargeItem, large_state};
 ghost use Rattle.lxr_large_model.specs.Step.{IsLargeReply};
 ghost use Rattle.lxr_heap.specs.Holding.{IsHeapOf};
-ghost use Rattle.lxr_heap.specs.Trying.{Does, Misses};
+ghost use Rattle.lxr_heap.specs.Trying.{Does, Misses, StaysAside};
 
 use crate::heap::Heap;
 use crate::{LargeHeap, MUTATOR};
-use lxr_direct::{try_get, try_load, try_put};
+use lxr_direct::{try_get, try_load, try_put, try_store};
 
 /// Register `dest` gets reference `index` of the object that `base` holds. Whether it did.
 #[inline(always)]
@@ -62,6 +62,24 @@ fn put(heap: &mut Heap, base: u8, index: u32, value: u64) -> bool
     true
 }
 
+/// Reference `index` of the object that `base` holds becomes what `source` holds, where there is nothing to record. Whether it did.
+#[inline(always)]
+fn store(heap: &mut Heap, base: u8, index: u32, source: u8) -> bool
+    requires holds { (h : List LargeItem) × IsHeapOf heap.old h }
+    requires base { base < heap.old.space.limits.registers }
+    requires source { source < heap.old.space.limits.registers }
+    ensures done { IsTrue result → Does heap.old heap.new (op.Store base index source) }
+    ensures small { IsTrue result → index < 2 ^ 16 }
+    ensures aside { result ≡ false → (h : List LargeItem) → IsHeapOf heap.old h → StaysAside h base index source }
+    ensures unchanged { result ≡ false → heap.new ≡ heap.old }
+{
+    if !try_store(&mut heap.space, MUTATOR, base, index, source) {
+        return false;
+    }
+    heap.fresh = false;
+    true
+}
+
 impl LargeHeap {
     /// Register `dest` gets reference `index` of the object that `base` holds. Whether it did: not where there is no such reference; then
     /// nothing has changed.
@@ -98,5 +116,18 @@ impl LargeHeap {
         ensures unchanged { result ≡ false → self.new ≡ self.old }
     {
         put(&mut self.heap, base, index, value)
+    }
+    /// Reference `index` of the object that `base` holds becomes what `source` holds, where there is nothing to record. Whether it did: not where
+    /// there is no such reference, nor where what it holds has to be recorded; then nothing has changed.
+    #[inline(always)]
+    pub fn try_store(&mut self, base: u8, index: u32, source: u8) -> bool
+        requires base { base < self.old.space.limits.registers }
+        requires source { source < self.old.space.limits.registers }
+        ensures done { IsTrue result → Does self.old self.new (op.Store base index source) }
+        ensures small { IsTrue result → index < 2 ^ 16 }
+        ensures aside { result ≡ false → (h : List LargeItem) → IsHeapOf self.old h → StaysAside h base index source }
+        ensures unchanged { result ≡ false → self.new ≡ self.old }
+    {
+        store(&mut self.heap, base, index, source)
     }
 }

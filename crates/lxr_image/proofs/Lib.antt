@@ -19,3 +19,4 @@ pub mod SettledLemmas
 pub mod PlaceLemmas
 pub mod FreesLemmas
 pub mod WriteLemmas
+pub mod UsedLemmas

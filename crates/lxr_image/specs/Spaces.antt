@@ -1,7 +1,7 @@
 -- What a space is, and how a call on its words changes it.
-use Rattle.std.specs.Prelude.{◌≡◌, ℕ, ◌*◌, ◌/◌, ◌%◌, ◌^◌, ◌<◌, ◌≤◌, ◌==◌, Bool, false, if◌then◌else◌}
+use Rattle.std.specs.Prelude.{◌≡◌, ◌≢◌, ℕ, ◌*◌, ◌/◌, ◌%◌, ◌^◌, ◌<◌, ◌≤◌, ◌==◌, Bool, false, if◌then◌else◌}
 use Rattle.std.specs.Int.{bit_at}
-use Rattle.lxr_layout.specs.declared.TheConstants.{GRANULES_IN_BLOCK, STUCK}
+use Rattle.lxr_layout.specs.declared.TheConstants.{GRANULES_IN_BLOCK, STUCK, WORDS_IN_BLOCK}
 use Rattle.lxr_layout.specs.Spaces.{AreLimits, all_regions, cursors_region, decs_region, dones_region, frees_region, grays_region, heap_region, marks_region, outs_region, region_begin, remembered_region, runs_region, starts_region, states_region, unlogged_region}
 use Rattle.lxr_image.specs.declared.space.Space.{Space}
 use Rattle.lxr_image.specs.declared.tables.BitTable.{BitTable}
@@ -23,6 +23,13 @@ pub record IsSpace (s : Space) : Type 0 where
 pub record Turns (before after : Space) (t : Tables) : Type 0 where
   pub tables : tables_of after ≡ t
   pub rest : after ≡ record before { words = after.words }
+
+-- the block of a heap word has a word that isn't 0, such as the header of an object with fields
+pub record IsInUsedBlock (s : Space) (at : ℕ) : Type 0 where
+  pub other : ℕ
+  pub there : other < WORDS_IN_BLOCK * s.limits.blocks
+  pub block : other / WORDS_IN_BLOCK ≡ at / WORDS_IN_BLOCK
+  pub some : (tables_of s).heap other ≢ 0
 
 -- no count is above STUCK, and a reuse counter has 32 bits
 pub record AreWithin (t : Tables) : Type 0 where

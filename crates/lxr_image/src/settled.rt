@@ -193,6 +193,8 @@ impl Settled {
     }
 
     /// Notes all blocks: anything may have changed.
+    #[cold]
+    #[inline(never)]
     pub(crate) fn forget(&mut self)
         ensures blocks { self.new.blocks ≡ self.old.blocks }
         ensures knows { (t u : Tables) → Knows self.old t → Knows self.new u }

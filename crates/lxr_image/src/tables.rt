@@ -9,7 +9,7 @@ ghost use Rattle.lxr_layout.specs.declared.TheConstants.{GRANULES_IN_BLOCK, GRAN
 ghost use Rattle.lxr_image.specs.Reads.{is_tracing};
 ghost use Rattle.lxr_image.specs.Runs.{with_runs};
 ghost use Rattle.lxr_image.specs.Settled.{block_of_bit};
-ghost use Rattle.lxr_image.specs.Spaces.{IsSpace, Turns, bit_region, bit_table, tables_of, with_bit, with_bit_word, with_word, word_region, word_table};
+ghost use Rattle.lxr_image.specs.Spaces.{IsInUsedBlock, IsSpace, Turns, bit_region, bit_table, tables_of, with_bit, with_bit_word, with_word, word_region, word_table};
 ghost use Rattle.lxr_image.specs.Tables.{changed};
 ghost use Rattle.lxr_layout.specs.Spaces.{AreLimits, counts_region, region_begin, region_sizes, reuse_region};
 ghost use Rattle.lxr_tables.specs.Counts.{lowered_count, lowered_of, raised_count};
@@ -467,6 +467,29 @@ impl Space {
         ensures { result ≡ (tables_of self.now).heap at }
     {
         self.word_in(WordTable::Heap, at as usize)
+    }
+
+    /// A word of the heap, in a block that has a word that isn't 0: that block is written, and no note of it is asked.
+    #[inline(always)]
+    pub fn used_word(&self, at: u32) -> u64
+        requires space { IsSpace self.now }
+        requires at { at < WORDS_IN_BLOCK * self.now.limits.blocks }
+        requires used { IsInUsedBlock self.now at }
+        ensures { result ≡ (tables_of self.now).heap at }
+    {
+        self.words.get_used(at as usize)
+    }
+
+    /// Writes a word of the heap, in a block that has a word that isn't 0, with no note of the block asked.
+    #[inline(always)]
+    pub fn put_used(&mut self, at: u32, value: u64)
+        requires space { IsSpace self.old }
+        requires at { at < WORDS_IN_BLOCK * self.old.limits.blocks }
+        requires used { IsInUsedBlock self.old at }
+        ensures { let t = tables_of self.old in
+            Turns self.old self.new (record t { heap = changed t.heap at value }) }
+    {
+        self.words.put_used(self.limits, at as usize, value);
     }
 
     /// Writes a word of the heap.

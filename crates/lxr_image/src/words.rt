@@ -1,8 +1,9 @@
 //! The words of a space, and what is known of lines beside them.
 ghost use Rattle.std.specs.Prelude.{◌≡◌, ◌≢◌, ℕ, ◌+◌, ◌-◌, ◌*◌, ◌<◌, ◌≤◌, List, [], true, false, IfNone, IfOk, IfSome, length, replicate, slice_index, slice_set};
 ghost use Rattle.lxr_layout.specs.declared.TheConstants.{GRANULES_IN_BLOCK, LINES_IN_BLOCK, STUCK};
-ghost use Rattle.lxr_layout.specs.Spaces.{AreLimits, all_regions, counts_region, region_begin, region_sizes, reuse_region, runs_region};
+ghost use Rattle.lxr_layout.specs.Spaces.{AreLimits, all_regions, counts_region, heap_region, region_begin, region_sizes, reuse_region, runs_region};
 ghost use Rattle.lxr_tables.specs.Counts.{lowered_count, lowered_of, raised_count};
+ghost use Rattle.lxr_tables.specs.Pages.{IsInUsedPage};
 
 use crate::settled::Settled;
 use crate::tables::{BitTable, WordTable};
@@ -117,6 +118,29 @@ impl HeapWords {
     {
         self.settled.note_word(limits.blocks, table, index);
         self.plain.set(table.begin(limits) + index, value);
+    }
+
+    /// The word at an index, in a page that has a word that isn't 0.
+    #[inline(always)]
+    pub(crate) fn get_used(&self, at: usize) -> u64
+        requires within { at < length self.now }
+        requires used { IsInUsedPage self.now at }
+        ensures { result ≡ slice_index self.now at }
+    {
+        self.plain.get_used(at)
+    }
+
+    /// Writes a word of the heap, which comes first, in a page that has a word that isn't 0.
+    #[inline(always)]
+    pub(crate) fn put_used(&mut self, limits: Limits, at: usize, value: u64)
+        requires limits { AreLimits limits }
+        requires size { length self.old ≡ region_begin limits all_regions }
+        requires at { at < slice_index (region_sizes limits) heap_region }
+        requires used { IsInUsedPage self.old at }
+        ensures { let t = tables_in limits self.old in tables_in limits self.new ≡ record t { heap = changed t.heap at value } }
+    {
+        self.settled.note_word(limits.blocks, WordTable::Heap, at);
+        self.plain.set_used(at, value);
     }
 
     /// Writes words to the run table from an index on.

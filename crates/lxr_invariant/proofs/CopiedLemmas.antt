@@ -78,7 +78,7 @@ pub free_alike : (t u : Tables) (line : ℕ) → u.outs ≡ t.outs → u.counts 
 free_alike t u line outs counts free =
     subst (λ f. IsTrue (is_free (record t { outs = f }) line)) outs (subst (λ f. IsTrue (is_free (record t { outs = u.outs; counts = f }) line)) counts free)
 
-some_granules : (o : Object) → 1 ≤ granules_of o
+pub some_granules : (o : Object) → 1 ≤ granules_of o
 some_granules o = omega arith
 
 -- an object that is gone had a granule of a line

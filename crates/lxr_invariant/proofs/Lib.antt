@@ -15,3 +15,4 @@ pub mod CopiedLemmas
 pub mod LandingLemmas
 pub mod UnusedLemmas
 pub mod RestLemmas
+pub mod VacantLemmas

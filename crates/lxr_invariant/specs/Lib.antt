@@ -9,3 +9,4 @@ pub mod Raised
 pub mod Settled
 pub mod Keeping
 pub mod Copied
+pub mod Vacant

@@ -47,7 +47,7 @@ pub record IsAtSafepoint (s : Space) (g : AbstractState) : Type 0 where
   pub numbers : HasNumbers s g
   pub traced : IsTracedBy s.limits (tables_of s) s.logged.items g g.moment.trace
 
--- At rest: a safepoint behind which only whole operations stand since the last pause. No decrementer has worked, no line that an
+-- At rest: a safepoint after which only whole operations stand since the last pause. No decrementer has worked, no line that an
 -- object overlaps is free, each line that is out is overlapped, and blocks have the states of their lines.
 pub record IsAtRest (s : Space) (g : AbstractState) : Type 0 where
   pub safepoint : IsAtSafepoint s g

@@ -61,7 +61,7 @@ asks_none o is k asks = asks
 
 -- ---- a pause whose counts are told
 
--- behind a pause whose counts were told the heap is the one behind the pause
+-- after a pause whose counts were told the heap is the one after the pause
 pub told_pauses : (x y z : Heap) (h : List LargeItem) (collect : Bool) → PausesHeap x y h collect → TellsHeap y z (Paused (report_of y.space.report) ∷ h) → PausesHeap x z h collect
 told_pauses x y z h collect paused tells = record {
   kind = ap (λ (w : Heap). w.space.report.kind) tells.heap ∙ paused.kind;

@@ -1,4 +1,4 @@
--- Playing goes on by calls and pauses: what a call has come to, directly or behind a pause that was made for it, and what is left once its reply is
+-- Playing goes on by calls and pauses: what a call has come to, directly or after a pause that was made for it, and what is left once its reply is
 -- kept and the pause that it asks for is made.
 use Rattle.std.proofs.Common.{◌≡◌, ℕ, ◌+◌, ◌∙◌, sym, ap, subst, arith, Bool, List, [], ◌∷◌, ◌++◌, append_assoc, length, length-append, Option, Some, None}
 use Rattle.lxr_graph.specs.History.{report_of}
@@ -42,7 +42,7 @@ module _ (task : LargeTask) (o : LargeOp) (rest : List LargeOp) (x : Heap) (writ
   }
 
   module _ (collect : Bool) (made : IsMadeFor task.terms h (kind_asked collect) o) (y : Heap) (paused : PausesHeap x y h collect) where
-    -- it may come behind a pause that was made for it
+    -- it may come after a pause that was made for it
     follows : (r : LargeReply) → PausesHaveCauses task.terms (Called o r ∷ []) (Paused (report_of y.space.report) ∷ h)
     follows r = pauses_are_made_for task.terms h (report_of y.space.report) o r p.causes (subst (λ k. IsMadeFor task.terms h k o) (sym paused.kind) made)
 

@@ -1,4 +1,4 @@
--- How far a script with large objects was played: what holds between its operations, and right behind a call.
+-- How far a script with large objects was played: what holds between its operations, and right after a call.
 use Rattle.std.specs.Prelude.{◌≡◌, ℕ, ◌+◌, ◌*◌, ◌≤◌, ◌&&◌, not, Bool, Option, List, [], ◌∷◌, ◌++◌, length}
 use Rattle.lxr_graph.specs.declared.report.Report.{Report}
 use Rattle.lxr_text_script.specs.declared.TheConstants.{SCRIPT_REGISTERS}

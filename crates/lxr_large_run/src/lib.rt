@@ -1,7 +1,7 @@
 //! Playing a script with large objects on a heap that is called directly.
 //!
-//! Its operations are done one by one. One that finds no room is done again behind a pause that collects, and one that finds the log full behind a
-//! plain one; behind one that asks for a pause stands that pause, and behind the end of the script one that collects. The reports are printed as
+//! Its operations are done one by one. One that finds no room is done again after a pause that collects, and one that finds the log full behind a
+//! plain one; behind one that asks for a pause stands that pause, and after the end of the script one that collects. The reports are printed as
 //! they come, and then the replies.
 #![tactic(auto)]
 

@@ -88,7 +88,7 @@ fn act_after_pause<O: Sink>(
     Ok(act_behind(heap, op))
 }
 
-/// Does an operation: behind a pause that collects where it finds no room without one, and behind a plain one where it finds the log full.
+/// Does an operation: after a pause that collects where it finds no room without one, and behind a plain one where it finds the log full.
 fn act<O: Sink>(
     heap: &mut LargeHeap,
     op: LargeOp,

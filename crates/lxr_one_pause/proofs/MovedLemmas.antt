@@ -296,7 +296,7 @@ module _ (s k : Space) (g : AbstractState) (can : CanPause s g) (at' : Name → 
   overflowed_then : HasOverflowed ends.cleared.limits tc → HasOverflowed x.limits tx
   overflowed_then over = subst (λ l. HasOverflowed l tx) (limits_cleared ∙ sym limits_ended) (overflowed_still ends.cleared.limits tc tx set_moved over)
 
-  -- free lines in a row then were so right behind the evacuation
+  -- free lines in a row then were so right after the evacuation
   run_before : (q : Run) → IsOpenRun (record tx { states = t0.states }) s.limits.blocks q → IsOpenRun te ends.evacuated.limits.blocks q
   run_before q run = record {
     run = record {

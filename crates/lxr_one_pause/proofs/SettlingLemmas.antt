@@ -282,7 +282,7 @@ module _ (s began : Space) (g : AbstractState) (can : CanPause s g) (begins : be
           lives_on : (n : Name) → IsTrue (has m.unreclaimed n) → ¬ Dead m.last m.unreclaimed m.stuck n → IsTrue (has left.unreclaimed n)
           lives_on n member alive = in_without m.unreclaimed gone n member (λ d. alive ((finish.dead n).0 d))
 
-          -- a line that is free was so right behind the increments
+          -- a line that is free was so right after the increments
           was_free : (line : ℕ) → IsTrue (is_free (record (tables_of queued) { outs = (tables_of s).outs }) line) → IsTrue (is_free (record (tables_of raised) { outs = (tables_of finished).outs }) line)
           was_free line = free_alike (record (tables_of raised) { outs = (tables_of finished).outs }) (record (tables_of queued) { outs = (tables_of s).outs }) line (sym same_outs)
               (ap (λ (t : Tables). t.counts) queue.tables)

@@ -1,4 +1,4 @@
--- Behind a pause, what is left may be told: where the pause drained, that is what it reported, and with it told a pause was made all the same.
+-- After a pause, what is left may be told: where the pause drained, that is what it reported, and with it told a pause was made all the same.
 use Rattle.std.proofs.Common.{◌≡◌, ℕ, refl, sym, ap, subst, ◌∙◌, Bool, true, false, cond, List, map, IsTrue}
 use Rattle.std.specs.Prelude.{Some, None, not, ◌&&◌}
 use Rattle.lxr_layout.specs.declared.Name.{Name}
@@ -73,7 +73,7 @@ module _ (before after : Space) (g : AbstractState) (at' : Name → ℕ) (ask : 
   abbrev r : PauseReport
   r = report_of after.report
 
-  -- the moment behind the pause
+  -- the moment after the pause
   abbrev then : Moment
   then = (paused g at' r).moment
 

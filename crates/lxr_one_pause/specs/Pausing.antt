@@ -131,7 +131,7 @@ Traces kind.Begin trace before after g at' r left = BeginsTracing after g at'
 Traces (kind.End j) trace before after g at' r left = EndsTracing after at' left
 Traces kind.Collect trace before after g at' r left = EndsTracing after at' left
 
--- Behind a plain pause exactly the decrements wait that it queued, in their order: of what logged references held at the last pause, and of what
+-- After a plain pause exactly the decrements wait that it queued, in their order: of what logged references held at the last pause, and of what
 -- registers held then and hold no more.
 abbrev pub QueuesOldValues : Kind → Space → Space → Type 0
 QueuesOldValues kind.Plain before after = decrement_list (tables_of after) ≡ old_values (record before { registers = after.registers })
@@ -153,7 +153,7 @@ IsLetGo g at' r line = (n : Name) × (o : Object) × (k : ℕ) × IsTrue (has (r
 -- those that were moved out of Chosen blocks at their new places and all others where they were, and the pause is counted, with what it moved
 -- and kept. Registers hold the new places. Blocks are chosen and released by its kind, and each that is neither Chosen nor World has the state
 -- of its lines. A line is out only where it has a moved object, nothing is left of the lines that a pause placed on but of those of moved
--- objects. Behind a plain pause exactly those decrements wait that it queued, and where the pause drained, none does. Numbers of the remembered
+-- objects. After a plain pause exactly those decrements wait that it queued, and where the pause drained, none does. Numbers of the remembered
 -- set are drawn for references alone that it met and that lead into Chosen blocks, one for each. Nothing else has changed, but that the tracing word tells whether a trace runs, and
 -- mark and gray bits are those that the kind asks for, gray bits after a trace but for this, that what is gray is marked.
 pub record Pauses (before after : Space) (g : AbstractState) (at' : Name → ℕ) (asked : Ask) (pace : Pace) : Type 0 where

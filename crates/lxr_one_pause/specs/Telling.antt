@@ -1,4 +1,4 @@
--- Which counts a report lists behind its pause.
+-- Which counts a report lists after its pause.
 use Rattle.std.specs.Prelude.{◌≡◌, Bool, [], if◌then◌else◌}
 use Rattle.lxr_graph.specs.declared.report.Report.{Report}
 

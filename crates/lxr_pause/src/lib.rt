@@ -7,7 +7,7 @@
 //! lines fit them ([`increments`], [`promote`], [`young_evacuate`]); while a trace runs, these are marked, and what was
 //! overwritten is made gray. What was overwritten waits for the next pause to be lowered ([`queue_decrements`]), and registers are
 //! kept as they are now, to be compared with then ([`defer_roots`]). Where nothing waits any more, the count of each object is
-//! reported, for proofs alone; behind the pause it can be told ([`tell_counts`]).
+//! reported, for proofs alone; after the pause it can be told ([`tell_counts`]).
 //!
 //! Each call takes the space alone, takes no memory and has no refusal. Its contract says what it leaves, in terms of the
 //! history that the space stands for. The work is done in the rooms `lxr_pause_decrements`, `lxr_pause_promote`,

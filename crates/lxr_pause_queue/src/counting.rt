@@ -108,7 +108,7 @@ pub fn count_unreclaimed(space: &mut Space)
 }
 
 /// Lists each unreclaimed object with its count, or none where it is stuck, in the order of names, in the report's room for it. Right
-/// behind a pause that drains that is what the pause reported; at another time counts are those of the tables, from which decrements may
+/// after a pause that drains that is what the pause reported; at another time counts are those of the tables, from which decrements may
 /// still wait. It takes no memory; it looks at the start bits of 64 granules at once, and at the header and the count of each unreclaimed
 /// object, and sorts them by name, in place (n log n).
 pub fn tell_counts(space: &mut Space)

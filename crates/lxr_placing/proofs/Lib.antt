@@ -10,4 +10,5 @@ pub mod ListedLemmas
 pub mod QuiescentLemmas
 pub mod OpenedListLemmas
 pub mod OpenedExactLemmas
+pub mod TurnLemmas
 pub mod WholeLemmas

@@ -75,15 +75,11 @@ written_read f xs k within =
 unlisted : (s : BlockState) → lists_runs s ≡ true → s ≢ Free
 unlisted s lists is = let k : lists_runs Free ≡ true = ap lists_runs (sym is) ∙ lists in cc
 
-module _ (t : Tables) (blocks : ℕ) (few : blocks ≤ MOST_BLOCKS) (states : HasStates t blocks) where
-  abbrev all_runs : List Run
-  all_runs = all_of (runs_of t) blocks
-
+-- of a list of runs of which each is one to be listed, and no two share a line
+module _ (t : Tables) (blocks : ℕ) (few : blocks ≤ MOST_BLOCKS) (states : HasStates t blocks) (all_runs : List Run) (words : List ℕ) (words_are : words ≡ map word_of_run all_runs) (few_words : length words ≤ 64 * blocks)
+    (each : (k : ℕ) (r : Run) → IsAt all_runs k r → IsListedRun t blocks r) (parted : (j k : ℕ) (q r : Run) → j < k → IsAt all_runs j q → IsAt all_runs k r → AreApartRuns q r) where
   abbrev all_frees : List ℕ
   all_frees = all_of (block_frees t) blocks
-
-  abbrev words : List ℕ
-  words = listed_runs t blocks
 
   abbrev numbers : List ℕ
   numbers = listed_frees t blocks
@@ -91,18 +87,12 @@ module _ (t : Tables) (blocks : ℕ) (few : blocks ≤ MOST_BLOCKS) (states : Ha
   abbrev after : Tables
   after = with_lists t words numbers
 
-  words_are : words ≡ map word_of_run all_runs
-  words_are = joined_is word_of_run (block_runs t) (runs_of t) blocks (block_words t)
-
   numbers_are : numbers ≡ map (λ n. n) all_frees
   numbers_are = joined_is (λ n. n) (block_frees t) (block_frees t) blocks (λ b. same_numbers (block_frees t b))
     where
       same_numbers : (xs : List ℕ) → xs ≡ map (λ n. n) xs
       same_numbers [] = refl
       same_numbers (x ∷ xs) = ap (λ ys. x ∷ ys) (same_numbers xs)
-
-  runs_ordered : AreInOrder (IsListedRun t blocks) first_line line_after 0 (LINES_IN_BLOCK * blocks) all_runs
-  runs_ordered = all_in_order (IsListedRun t blocks) first_line line_after (runs_of t) LINES_IN_BLOCK blocks (block_in_order t blocks)
 
   frees_ordered : AreInOrder (IsListedBlock t blocks) (λ n. n) (λ n. n + 1) 0 (1 * blocks) all_frees
   frees_ordered = all_in_order (IsListedBlock t blocks) (λ n. n) (λ n. n + 1) (block_frees t) 1 blocks (λ b block. frees_in_order t blocks b states block)
@@ -113,7 +103,7 @@ module _ (t : Tables) (blocks : ℕ) (few : blocks ≤ MOST_BLOCKS) (states : Ha
       let (r, at) = item_of all_runs k (subst (λ n. k < n) (ap length words_are ∙ length-map all_runs word_of_run) within) in (
         r,
         at,
-        (item_is (IsListedRun t blocks) first_line line_after 0 (LINES_IN_BLOCK * blocks) all_runs k r runs_ordered at).0,
+        each k r at,
         written_read t.runs words k within ∙ ap (λ xs. slice_index xs k) words_are ∙ item_read word_of_run all_runs k r at,
       )
 
@@ -145,7 +135,7 @@ module _ (t : Tables) (blocks : ℕ) (few : blocks ≤ MOST_BLOCKS) (states : Ha
   are_listed = record {
     no_runs_drawn = refl;
     no_blocks_drawn = refl;
-    few_runs = joined_few (block_runs t) 64 blocks (block_few t);
+    few_runs = few_words;
     few_blocks = let most = joined_few (block_frees t) 1 blocks (frees_few t) in omega arith;
     runs = λ k within. let (r, at, listed, word) = run_of k within in (r, record { word = word; some = listed.some; run = open_then r listed.run });
     blocks = λ k within. let (b, at, listed, number) = free_of k within in record {
@@ -153,8 +143,7 @@ module _ (t : Tables) (blocks : ℕ) (few : blocks ≤ MOST_BLOCKS) (states : Ha
       run = subst (λ z. IsOpenRun after blocks (whole_block z)) (sym number) (open_then (whole_block b) listed.run);
     };
     runs_apart = λ j k q r less within lists too.
-        apart_by q r (items_apart (IsListedRun t blocks) first_line line_after 0 (LINES_IN_BLOCK * blocks) all_runs j k q r runs_ordered less
-        (run_is j q (omega (arith, less, within)) lists).0 (run_is k r within too).0);
+        parted j k q r less (run_is j q (omega (arith, less, within)) lists).0 (run_is k r within too).0;
     blocks_apart = λ j k less within e.
         let (b, at, listed, number) = free_of j (omega (arith, less, within)) in
         let (c, at', listed', number') = free_of k within in
@@ -166,6 +155,14 @@ module _ (t : Tables) (blocks : ℕ) (few : blocks ≤ MOST_BLOCKS) (states : Ha
         unlisted (state_in t r.block) (run_is j r in_runs lists).1.lists (ap (state_in t) (e ∙ number) ∙ listed.state);
   }
 
+-- so it is of the runs of all blocks, in order
+all_are_listed : (t : Tables) (blocks : ℕ) → blocks ≤ MOST_BLOCKS → HasStates t blocks → AreLists (with_lists t (listed_runs t blocks) (listed_frees t blocks)) blocks
+all_are_listed t blocks few states =
+    let ordered = all_in_order (IsListedRun t blocks) first_line line_after (runs_of t) LINES_IN_BLOCK blocks (block_in_order t blocks) in
+    are_listed t blocks few states (all_of (runs_of t) blocks) (listed_runs t blocks) (joined_is word_of_run (block_runs t) (runs_of t) blocks (block_words t)) (joined_few (block_runs t) 64 blocks (block_few t))
+    (λ k r at. (item_is (IsListedRun t blocks) first_line line_after 0 (LINES_IN_BLOCK * blocks) (all_of (runs_of t) blocks) k r ordered at).0)
+    (λ j k q r less at too. apart_by q r (items_apart (IsListedRun t blocks) first_line line_after 0 (LINES_IN_BLOCK * blocks) (all_of (runs_of t) blocks) j k q r ordered less at too))
+
 -- ---- the space
 
 -- a space that was listed anew is listed
@@ -173,5 +170,5 @@ pub listed_now : (s after : Space) → IsSpace s → HasStates (tables_of s) s.l
     → TurnsWithRest s after (with_lists (tables_of s) (listed_runs (tables_of s) s.limits.blocks) (listed_frees (tables_of s) s.limits.blocks)) 0 0 → IsListed after
 listed_now s after space states lists = listed_by after
     (subst (λ (l : Limits). AreLists (tables_of after) l.blocks) (sym (ap (λ z. z.limits) lists.rest))
-    (subst (λ t. AreLists t s.limits.blocks) (sym lists.tables) (are_listed (tables_of s) s.limits.blocks space.limits.blocks.1 states)))
+    (subst (λ t. AreLists t s.limits.blocks) (sym lists.tables) (all_are_listed (tables_of s) s.limits.blocks space.limits.blocks.1 states)))
     (ap (λ z. z.rest_next) lists.rest ∙ sym (ap (λ z. z.rest_end) lists.rest))

@@ -11,7 +11,7 @@ use Rattle.lxr_image.specs.Tables.{Tables}
 use Rattle.lxr_image.specs.Spaces.{tables_of}
 use Rattle.lxr_blocks.specs.declared.states.BlockState.TheVariants.{Free}
 use Rattle.lxr_blocks.specs.States.{state_in}
-use Rattle.lxr_blocks.specs.Listing.{TurnsWithRest, block_frees, joined, listed_frees, listed_runs, lists_block, with_lists}
+use Rattle.lxr_blocks.specs.Listing.{TurnsWithRest, block_frees, joined, listed_frees, lists_block, with_lists}
 use Rattle.lxr_invariant.specs.Listed.{FreeBlocksAreListed}
 use Rattle.lxr_placing.proofs.ListedLemmas.{written_read}
 
@@ -34,18 +34,18 @@ in_joined f (suc n) b x below is = elim (eqb_tells b n) [
       (k, omega arith, get_or_append_left (joined f n) (f n) 0 k within ∙ there)
 ]
 
--- a Free block is listed once blocks are listed anew
-pub free_is_listed : (t : Tables) (blocks n : ℕ) → n < blocks → state_in t n ≡ Free
-    → let after = with_lists t (listed_runs t blocks) (listed_frees t blocks) in (k : ℕ) × (k < after.cursors FREE_BLOCK_COUNT) × (after.frees k ≡ n)
-free_is_listed t blocks n below free =
+-- a Free block is listed once blocks are listed anew, whatever runs are
+pub free_is_listed : (t : Tables) (runs : List ℕ) (blocks n : ℕ) → n < blocks → state_in t n ≡ Free
+    → let after = with_lists t runs (listed_frees t blocks) in (k : ℕ) × (k < after.cursors FREE_BLOCK_COUNT) × (after.frees k ≡ n)
+free_is_listed t runs blocks n below free =
     let (k, within, there) = in_joined (block_frees t) blocks n n below (ap (λ s. if lists_block s then (n ∷ []) else []) free) in
     (k, within, written_read t.frees (listed_frees t blocks) k within ∙ there)
 
-pub all_listed_now : (s after : Space)
-    → TurnsWithRest s after (with_lists (tables_of s) (listed_runs (tables_of s) s.limits.blocks) (listed_frees (tables_of s) s.limits.blocks)) 0 0
+pub all_listed_now : (s after : Space) (runs : List ℕ)
+    → TurnsWithRest s after (with_lists (tables_of s) runs (listed_frees (tables_of s) s.limits.blocks)) 0 0
     → FreeBlocksAreListed after
-all_listed_now s after lists n below free =
+all_listed_now s after runs lists n below free =
     let limits : after.limits ≡ s.limits = ap (λ z. z.limits) lists.rest in
     let low : n < s.limits.blocks = subst (λ (l : Limits). n < l.blocks) limits below in
     let was : state_in (tables_of s) n ≡ Free = subst (λ t. state_in t n ≡ Free) lists.tables free in
-    subst (λ t. (k : ℕ) × (k < t.cursors FREE_BLOCK_COUNT) × (t.frees k ≡ n)) (sym lists.tables) (free_is_listed (tables_of s) s.limits.blocks n low was)
+    subst (λ t. (k : ℕ) × (k < t.cursors FREE_BLOCK_COUNT) × (t.frees k ≡ n)) (sym lists.tables) (free_is_listed (tables_of s) runs s.limits.blocks n low was)

@@ -8,5 +8,5 @@
 mod listing;
 mod placing;
 
-pub use listing::{list_for_epoch, opened_is_listed};
+pub use listing::{ToList, list_for_epoch, list_next, opened_is_listed};
 pub use placing::{opened_is_quiescent, serve};

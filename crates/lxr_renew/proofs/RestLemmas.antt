@@ -36,7 +36,7 @@ use Rattle.lxr_renew.proofs.TableLemmas.{bits_renewed, counts_renewed, decrement
 abbrev pub resting : State → ℕ → List Name → List Name → (Name → ℕ) → PauseReport → AbstractState
 resting s number us stuck at reported = record { moment = still s number us stuck; at = at; reported = reported }
 
--- the space with other words, behind no pause
+-- the space with other words, after no pause
 abbrev pub uncounted : Space → Space → Space
 uncounted s mid = record s { words = mid.words; tally = no_tally; pauses = 0 }
 

@@ -1,4 +1,4 @@
--- Behind a draining pause of a legal history what is left is closed under references, so it is under its new names, and a history may begin
+-- After a draining pause of a legal history what is left is closed under references, so it is under its new names, and a history may begin
 -- there.
 use Rattle.std.proofs.Common.{◌≡◌, ℕ, ◌*◌, ◌≤◌, refl, sym, ap, subst, ◌∙◌, List, [], ◌∷◌, IsTrue, length, map}
 use Rattle.std.specs.Prelude.{None, is_some}

@@ -22,7 +22,7 @@ ObjectsAreRenamed = (ns : List Name) → AreInOrder (world_name ∷ ns) → (thr
 
 -- ---- histories
 
--- behind a draining pause of a legal history a history may begin with what all that is left becomes
+-- after a draining pause of a legal history a history may begin with what all that is left becomes
 abbrev pub RenewalsAreSound : Type 0
 RenewalsAreSound =
     (terms : Terms) (h : List Item) (ns : List Name) → 1 ≤ terms.threads → IsLegalSoFar terms h → IsBehindDraining h

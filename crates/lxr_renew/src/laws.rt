@@ -11,12 +11,12 @@ pub fn objects_are_renamed()
     ensures { ObjectsAreRenamed }
 {}
 
-/// Behind a draining pause of a legal history a history may begin with what all that is left becomes.
+/// After a draining pause of a legal history a history may begin with what all that is left becomes.
 pub fn renewals_are_sound()
     ensures { RenewalsAreSound }
 {}
 
-/// Behind a draining pause of a legal history, while no trace runs, all that is left may be renewed where terms allow it, and the
+/// After a draining pause of a legal history, while no trace runs, all that is left may be renewed where terms allow it, and the
 /// history is legal with that.
 pub fn renewals_are_legal()
     ensures { RenewalsAreLegal }

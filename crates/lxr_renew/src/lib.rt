@@ -1,6 +1,6 @@
 //! New names for what is left of a heap.
 //!
-//! A name is a serial of 32 bits, and a runtime makes that many objects in minutes. So right behind a pause that drained and left no trace
+//! A name is a serial of 32 bits, and a runtime makes that many objects in minutes. So right after a pause that drained and left no trace
 //! running, where what is left was told since, each object that is left may get a new serial, 1, 2, 3, .., in order of the old names. A name
 //! stands in the header of its object and nowhere else, since references, registers and the tables hold places: so a pass over the heap writes
 //! headers. It takes no memory.
@@ -21,7 +21,7 @@ pub use laws::{
 };
 use lxr_image::{NO_TALLY, Space};
 
-/// Gives each object that is left a new name, and counts from 0 again, right behind a pause that drained and left no trace running, where what
+/// Gives each object that is left a new name, and counts from 0 again, right after a pause that drained and left no trace running, where what
 /// is left was told since. It goes over start bits, 64 granules at once, and looks each name up by halves among what was told; it takes no
 /// memory.
 pub fn renew_names(space: &mut Space)

@@ -1,4 +1,4 @@
--- Whether all threads have ended behind an epoch, what its pause is asked for then, and how much is left.
+-- Whether all threads have ended after an epoch, what its pause is asked for then, and how much is left.
 use Rattle.std.proofs.Common.{◌≡◌, ℕ, zero, suc, ◌≤◌, ◌⊎◌, refl, sym, ap, subst, ◌∙◌, inl, inr, ⊎_elim, arith, Bool, true, false, ◌↔◌, ◌||◌, IsTrue, List, [], ◌∷◌}
 use Rattle.std.specs.Prelude.{Option, Some, None, slice_get}
 use Rattle.std.specs.List.{All, list_any}
@@ -82,7 +82,7 @@ collected_among (any.Mutator m ∷ actors) = ap (λ b. has_collected m || b) (co
 collected_among (any.Decrementer d ∷ actors) = collected_among actors
 collected_among (any.Tracer d ∷ actors) = collected_among actors
 
--- the pause behind an epoch is asked to collect exactly where it must
+-- the pause after an epoch is asked to collect exactly where it must
 pub asks_right : (task : Task) (space : Space) (seen : Option (List Sight)) (before actors : List AnyActor) (h : List Item) (g : AbstractState) (ended collects : Bool) (asked : Ask)
     → HasRunEpoch task space seen before actors h g → (IsTrue ended ↔ All NoneGoesOn actors) → collects ≡ (ended || list_any actor_collected actors) → asked ≡ asked_by collects
     → (asked ≡ ask.Collect) ↔ MustCollect (terms_of task) h

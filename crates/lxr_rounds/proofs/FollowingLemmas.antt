@@ -1,4 +1,4 @@
--- The pause behind an epoch is due and asked right. Behind it all threads have ended, or waiting `new`s are answered and the run is between epochs
+-- The pause after an epoch is due and asked right. Behind it all threads have ended, or waiting `new`s are answered and the run is between epochs
 -- again.
 use Rattle.std.proofs.Common.{◌≡◌, ◌↔◌, IsTrue, ℕ, ◌+◌, ◌*◌, ◌≤◌, refl, sym, ap, subst, ◌∙◌, arith, Bool, false, true, ◌||◌, List, ◌∷◌, length}
 use Rattle.std.specs.Prelude.{Option}
@@ -14,7 +14,6 @@ use Rattle.lxr_one_pause.specs.declared.Ask.{Ask}
 use Rattle.lxr_one_pause.specs.declared.Ask.TheVariants as ask
 use Rattle.lxr_one_pause.specs.declared.Pace.{Pace}
 use Rattle.lxr_one_pause.specs.Pausing.{Pauses}
-use Rattle.lxr_placing.specs.Listing.{ListsAll}
 use Rattle.lxr_serve.specs.Serving.{KeepsHelpers}
 use Rattle.lxr_sights.specs.Sights.{Sight}
 use Rattle.lxr_rounds_invariant.specs.LoopInvariant.{FitsCounts, HasPaused, HasRunEpoch, IsServing, Task, asked_by, done_of, pace_of, terms_of}
@@ -31,7 +30,7 @@ use Rattle.lxr_rounds.specs.Serving.{BeginsServing}
 use Rattle.lxr_rounds.proofs.EndedLemmas.{asks_right, comes, has_more, have_all_ended, not_told}
 use Rattle.lxr_rounds.proofs.ServeLemmas.{begins_serving}
 
--- what is found of actors behind an epoch: whether all threads have ended, whether the pause shall collect, and what it is asked for
+-- what is found of actors after an epoch: whether all threads have ended, whether the pause shall collect, and what it is asked for
 pub record AreFound (actors : List AnyActor) (ended collects : Bool) (asked : Ask) : Type 0 where
   pub means : IsTrue ended ↔ All NoneGoesOn actors
   pub shall : collects ≡ (ended || list_any actor_collected actors)
@@ -127,9 +126,9 @@ module _ (task : Task) (pace : Pace) (paced : pace_of task.plan ≡ pace) (after
     -- and once all are answered, and lists are made anew, the rounds are between epochs again
     pub goes_on : (e : ended ≡ false) → then.pauses ≡ after.pauses + 1 → (full again : Space) (seen'' : Option (List Sight)) (answered : List AnyActor) (collected served : Bool) (k : List Item) (g'' : AbstractState)
         → IsServing task full seen'' (mutators_in actors) then.pauses collected (mutators_in answered) (length (mutators_in answered)) served k g''
-        → AnswersWaiting pace collects (mutators_in actors) then (Pause report ∷ h) (mutators_in answered) full k → KeepsHelpers actors answered → ListsAnew full again g'' → ListsAll full again
-        → (told : List Item → List Item → Type 0) → told h k → IsNextDue told task after again seen'' earlier actors answered h
-    goes_on e one full again seen'' answered collected served k g'' serving answers keeps lists lists_all told tells = record {
+        → AnswersWaiting pace collects (mutators_in actors) then (Pause report ∷ h) (mutators_in answered) full k → KeepsHelpers actors answered → ListsAnew full again g''
+        → (lists_so : Space → Space → Type 0) → lists_so full again → (told : List Item → List Item → Type 0) → told h k → IsNextDue lists_so told task after again seen'' earlier actors answered h
+    goes_on e one full again seen'' answered collected served k g'' serving answers keeps lists lists_so listed_so told tells = record {
       collects = collects;
       paused = then;
       sighted = seen';
@@ -141,7 +140,7 @@ module _ (task : Task) (pace : Pace) (paced : pace_of task.plan ≡ pace) (after
       answers = subst (λ p. AnswersWaiting p collects (mutators_in actors) then (Pause report ∷ h) (mutators_in answered) full k) (sym paced) answers;
       keeps = keeps;
       asked = serving.asked;
-      lists = lists_all;
+      lists = listed_so;
       again = runs_go_on task after full again seen seen'' earlier actors answered then.pauses (length (mutators_in answered)) collected served h k g g'' ran one serving refl keeps lists;
       tells = tells;
     }

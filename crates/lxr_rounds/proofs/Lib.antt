@@ -6,3 +6,4 @@ pub mod ObservingLemmas
 pub mod TellingLemmas
 pub mod ServeLemmas
 pub mod FollowingLemmas
+pub mod TurnLemmas

@@ -37,7 +37,7 @@ asked_by_it : (collected : Bool) → (asked_by collected ≡ ask.Collect) ↔ Is
 asked_by_it true = (λ e. refl, λ e. refl)
 asked_by_it false = (λ e. absurd (cc), λ e. absurd (cc))
 
--- behind the pause of an epoch serving begins
+-- after the pause of an epoch serving begins
 pub begins_serving : (task : Task) (space : Space) (seen : Option (List Sight)) (mutators : List Mutating) (h : List Item) (asked : Ask) (collected : Bool) (report : PauseReport) (g : AbstractState)
     → HaveMutators task h mutators → NewsWait mutators → HasMore mutators → asked ≡ asked_by collected → (asked ≡ ask.Collect) ↔ MustCollect (terms_of task) h → HasPaused task space seen h asked report g
     → BeginsServing task space seen collected mutators (Pause report ∷ h) g
@@ -88,13 +88,13 @@ module _ (task : Task) (pace : Pace) (seen : Option (List Sight)) (before : List
         (serving_again task space seen before paused collected mutators full.number full.served h full.abstract_state full.serving full.mutator full.at full.waits full.not_yet full.dest full.shape full.is full.full
         space' seen' report g' has_paused one)
 
--- what answers the rest behind a pause that such a call asked for answers all
+-- what answers the rest after a pause that such a call asked for answers all
 pub answers_behind : (pace : Pace) (collected0 collected : Bool) (mutators0 mutators middle : List Mutating) (space0 space full paused : Space) (h0 h k : List Item) → AnswersOn pace collected0 mutators0 space0 h0 collected mutators space h
     → WantsCollection collected mutators middle space full h k → MakesPause ask.Collect pace full paused → AnswersOn pace collected0 mutators0 space0 h0 true middle paused (Pause (report_of paused.report) ∷ k)
 answers_behind pace collected0 collected mutators0 mutators middle space0 space full paused h0 h k so_far wants makes =
     λ mutators' space' h' rest. so_far mutators' space' h' (collects collected mutators middle mutators' space full paused space' h k h' wants makes rest)
 
--- less is left from call to call, but for the first one behind a pause that didn't collect
+-- less is left from call to call, but for the first one after a pause that didn't collect
 pub less_left : (task : Task) (h h' : List Item) (mutators mutators' : List Mutating) (space space' : Space) (k k' : List Item) (collected : Bool) → HaveMutators task h mutators → HaveMutators task h' mutators' → WantsCollection collected mutators mutators' space space' k k'
     → left_of mutators' + cond {A = ℕ} true 0 1 < left_of mutators + cond {A = ℕ} collected 0 1
 less_left task h h' mutators mutators' space space' k k' true have have' wants =

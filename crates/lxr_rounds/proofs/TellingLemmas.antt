@@ -38,7 +38,7 @@ come_told task space seen h g told come = record {
 }
 
 module _ (before amid after : Space) (alone : after ≡ with_told amid after.report.told.items) where
-  -- it was told behind a pause that was made
+  -- it was told after a pause that was made
   pub makes_told : (asked : Ask) (pace : Pace) → MakesPause asked pace before amid → MakesPause asked pace before after
   makes_told asked pace makes = λ g can.
       let (at', pauses) = makes g can in

@@ -1,4 +1,4 @@
--- How the `new`s that wait are answered behind a pause, with more pauses between, until none waits.
+-- How the `new`s that wait are answered after a pause, with more pauses between, until none waits.
 use Rattle.std.specs.Prelude.{Bool, true, List, ◌∷◌}
 use Rattle.lxr_graph.specs.History.{Item, Pause, report_of}
 use Rattle.lxr_image.specs.declared.space.Space.{Space}

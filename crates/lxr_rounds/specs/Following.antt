@@ -9,7 +9,6 @@ use Rattle.lxr_core.specs.Actors.{mutators_in}
 use Rattle.lxr_core.specs.Ordering.{orders_of}
 use Rattle.lxr_one_pause.specs.declared.Ask.TheVariants as ask
 use Rattle.lxr_one_pause.specs.declared.Pace.{Pace}
-use Rattle.lxr_placing.specs.Listing.{ListsAll}
 use Rattle.lxr_serve.specs.Serving.{KeepsHelpers}
 use Rattle.lxr_sights.specs.Sights.{Sight}
 use Rattle.lxr_rounds_invariant.specs.LoopInvariant.{HasPaused, HasRunEpoch, HasRunTo, HaveEnded, Task, asked_by, pace_of, terms_of}
@@ -31,7 +30,7 @@ pub record IsFollowedByPause (task : Task) (collects : Bool) (h : List Item) (be
   pub paused : HasPaused task after seen h (asked_by collects) report abstract_state
   pub behind : PausesBehind task (asked_by collects) h before after
 
--- All threads had ended, and that pause was the last: the history is whole. This was told of the histories before and behind the pause.
+-- All threads had ended, and that pause was the last: the history is whole. This was told of the histories before and after the pause.
 pub record IsLast (told : List Item → List Item → Type 0) (task : Task) (before after : Space) (seen : Option (List Sight)) (actors actors' : List AnyActor) (h : List Item) : Type 0 where
   pub ended : HaveEnded (mutators_in actors)
   pub pause : IsFollowedByPause task true h before after seen
@@ -39,9 +38,10 @@ pub record IsLast (told : List Item → List Item → Type 0) (task : Task) (bef
   pub ran : HasRunTo task after seen actors (Pause pause.report ∷ h)
   pub tells : told h (Pause pause.report ∷ h)
 
--- Some thread goes on: the `new`s that waited were answered behind that pause, with more pauses where these wanted room, and the rounds are between
--- epochs again. `earlier` are the actors that the epoch began with. This was told of the histories before and behind all that.
-pub record IsNextDue (told : List Item → List Item → Type 0) (task : Task) (before after : Space) (seen : Option (List Sight)) (earlier actors actors' : List AnyActor) (h : List Item) : Type 0 where
+-- Some thread goes on: the `new`s that waited were answered after that pause, with more pauses where these wanted room, and the rounds are between
+-- epochs again, whose free lines and blocks were listed so. `earlier` are the actors that the epoch began with. This was told of the histories before
+-- and behind all that.
+pub record IsNextDue (lists_so : Space → Space → Type 0) (told : List Item → List Item → Type 0) (task : Task) (before after : Space) (seen : Option (List Sight)) (earlier actors actors' : List AnyActor) (h : List Item) : Type 0 where
   pub collects : Bool
   pub paused : Space
   pub sighted : Option (List Sight)
@@ -53,19 +53,19 @@ pub record IsNextDue (told : List Item → List Item → Type 0) (task : Task) (
   pub answers : AnswersWaiting (pace_of task.plan) collects (mutators_in actors) paused (Pause pause.report ∷ h) (mutators_in actors') answered history
   pub keeps : KeepsHelpers actors actors'
   pub asked : orders_of (mutators_in actors') ≡ orders_of (mutators_in actors)
-  pub lists : ListsAll answered after
+  pub lists : lists_so answered after
   pub again : IsAgain task after seen earlier actors' history abstract_state
   pub tells : told h history
 
 -- what has followed an epoch, by whether all threads had ended
-abbrev pub HasFollowed : Bool → (List Item → List Item → Type 0) → Task → (before after : Space) → Option (List Sight) → (earlier actors actors' : List AnyActor) → List Item → Type 0
-HasFollowed true told task before after seen earlier actors actors' h = IsLast told task before after seen actors actors' h
-HasFollowed false told task before after seen earlier actors actors' h = IsNextDue told task before after seen earlier actors actors' h
+abbrev pub HasFollowed : Bool → (Space → Space → Type 0) → (List Item → List Item → Type 0) → Task → (before after : Space) → Option (List Sight) → (earlier actors actors' : List AnyActor) → List Item → Type 0
+HasFollowed true lists_so told task before after seen earlier actors actors' h = IsLast told task before after seen actors actors' h
+HasFollowed false lists_so told task before after seen earlier actors actors' h = IsNextDue lists_so told task before after seen earlier actors actors' h
 
 -- so it is for all rounds at this pace that have made such an epoch
-abbrev pub FollowsEach : (List Item → List Item → Type 0) → Pace → Space → Option (List Sight) → List AnyActor → Space → Option (List Sight) → List AnyActor → Bool → Type 0
-FollowsEach told pace space seen actors space' seen' actors' ended = (task : Task) → pace_of task.plan ≡ pace → (earlier : List AnyActor) (h : List Item) (g : AbstractState)
-    → HasRunEpoch task space seen earlier actors h g → HasFollowed ended told task space space' seen' earlier actors actors' h
+abbrev pub FollowsEach : (Space → Space → Type 0) → (List Item → List Item → Type 0) → Pace → Space → Option (List Sight) → List AnyActor → Space → Option (List Sight) → List AnyActor → Bool → Type 0
+FollowsEach lists_so told pace space seen actors space' seen' actors' ended = (task : Task) → pace_of task.plan ≡ pace → (earlier : List AnyActor) (h : List Item) (g : AbstractState)
+    → HasRunEpoch task space seen earlier actors h g → HasFollowed ended lists_so told task space space' seen' earlier actors actors' h
 
 -- all such rounds were cut off
 abbrev pub CutsOffEach : (List Item → List Item → PauseReport → Type 0) → Pace → Space → Option (List Sight) → List AnyActor → Space → Option (List Sight) → Type 0

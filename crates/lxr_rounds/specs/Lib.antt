@@ -5,3 +5,4 @@ pub mod Pausing
 pub mod Ending
 pub mod Serving
 pub mod Following
+pub mod Turns

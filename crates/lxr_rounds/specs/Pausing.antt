@@ -27,7 +27,7 @@ pub record PausesBehind (task : Task) (asked : Ask) (h : List Item) (before afte
   pub places : Name → ℕ
   pub pauses : Pauses (with_logs_counted before) after abstract_state places asked (pace_of task.plan)
 
--- rounds at this pace have come to a history behind which a pause is due, which is asked right whether it shall collect
+-- rounds at this pace have come to a history after which a pause is due, which is asked right whether it shall collect
 pub record HasComeToPause (asked : Ask) (pace : Pace) (task : Task) (space : Space) (seen : Option (List Sight)) (h : List Item) (g : AbstractState) : Type 0 where
   pub come : HasCome task space seen h g
   pub due : IsPauseDue task h

@@ -43,8 +43,8 @@ fn serve_and_tell<S, O: Observer<S>>(
     served
 }
 
-/// Serves or refuses the `new`s that wait right behind a pause, which may have collected. Where there is no room for one of them, and
-/// it may not be refused yet, a collecting pause is made for it, and it comes first behind that pause. The last report lists counts where
+/// Serves or refuses the `new`s that wait right after a pause, which may have collected. Where there is no room for one of them, and
+/// it may not be refused yet, a collecting pause is made for it, and it comes first after that pause. The last report lists counts where
 /// the observer wants them, and else none.
 pub(crate) fn answer_waiting<W: Watch, S, O: Observer<S>>(
     space: &mut Space,

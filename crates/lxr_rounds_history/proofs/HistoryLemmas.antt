@@ -34,7 +34,7 @@ promise_kept terms (Renew ns ∷ h) x none = tt
 promise_kept terms (Call t o r ∷ h) x none = tt
 promise_kept terms (Pause report ∷ h) x none = λ waiting. absurd (none waiting)
 
--- so it is behind the calls of an epoch
+-- so it is after the calls of an epoch
 pub owes_extends : (terms : Terms) (threads every : ℕ) (h k : List Item) → Extends threads every h k → OwesNoCall terms h → OwesNoCall terms k
 owes_extends terms threads every h k (same) none = none
 owes_extends terms threads every h k (called l t o r before is) none = tt

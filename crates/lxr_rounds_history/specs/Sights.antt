@@ -62,7 +62,7 @@ pub record SeesPause (threads : ℕ) (h : List Item) (report : PauseReport) (saf
   pub evacuated : CountsEvacuated report safepoint after abstract_state'.moment.unreclaimed abstract_state.at abstract_state'.at
 
 -- The sights of a history of so many threads, two for each pause since names were last renewed, in order. At the opening the world alone has a
--- place, and behind a renewal all that is left stands where it stood. What pauses have moved and kept is what the last sight counts, and
+-- place, and after a renewal all that is left stands where it stood. What pauses have moved and kept is what the last sight counts, and
 -- between two pauses it stays.
 abbrev pub SeesPauses : ℕ → List Item → List Sight → (Name → ℕ) → Evacuated → Type 0
 SeesPauses threads [] sights places evacuated = (sights ≡ []) × (places ≡ opening_at) × (evacuated ≡ none_evacuated)

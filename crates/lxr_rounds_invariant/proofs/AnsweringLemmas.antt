@@ -36,7 +36,7 @@ use Rattle.lxr_rounds_invariant.proofs.TurnLemmas as turn
 
 -- ---- a call may be made
 
--- right behind a collecting pause the last report is one of such a pause
+-- right after a collecting pause the last report is one of such a pause
 collected_report : (h : List Item) → IsCollectedSince h → (last_report h).kind ≡ kind.Collect
 collected_report [] since = absurd since
 collected_report (Renew ns ∷ h) since = absurd since

@@ -18,7 +18,7 @@ use Rattle.lxr_rounds_invariant.specs.Laws.{RunsEnd}
 use Rattle.lxr_rounds_invariant.proofs.ActorLemmas.{as_many, ends_are_all, operations_at, threads_are_done}
 use Rattle.lxr_rounds_invariant.proofs.PauseLemmas.{actors_paused}
 
--- the pause behind the epoch in which the last thread ended is the last
+-- the pause after the epoch in which the last thread ended is the last
 pub run_to : (task : Task) (safepoint space : Space) (seen seen' : Option (List Sight)) (before actors : List AnyActor) (h : List Item) (g m : AbstractState) (asked : Ask) (report : PauseReport)
     → HasRunEpoch task safepoint seen before actors h g → HaveEnded (mutators_in actors) → HasPaused task space seen' h asked report m → HasRunTo task space seen' actors (Pause report ∷ h)
 run_to task safepoint space seen seen' before actors h g m asked report ran ended paused = record {

@@ -1,4 +1,4 @@
--- Behind a renewal a run stands as at its opening: nothing is called, replied or seen since, and each mutator is asked for what is still
+-- After a renewal a run stands as at its opening: nothing is called, replied or seen since, and each mutator is asked for what is still
 -- to be done.
 use Rattle.std.proofs.Common.{◌≡◌, ℕ, zero, suc, ◌+◌, ◌-◌, ◌*◌, ◌<◌, ◌≤◌, refl, sym, ap, subst, ◌∙◌, arith, true, false, List, [], ◌∷◌, append-nil, length, nat_eq}
 use Rattle.std.specs.Prelude.{Option, Some, None, if◌then◌else◌, slice_get}

@@ -62,7 +62,7 @@ few_named_now l m is = subst (λ n. IsFormedFor n (op_now m)) is.width (formed_n
 -- ---- a `new` whose turn has come
 
 -- Thread t's `new` waits, and its turn has come: the thread has had no call since the last pause, and what that pause promised is kept by this
--- call. Where a collecting pause stands before this call of serving, and none was served in it, nothing but refusals stands behind that pause.
+-- call. Where a collecting pause stands before this call of serving, and none was served in it, nothing but refusals stands after that pause.
 pub record MayServe (task : Task) (space : Space) (seen : Option (List Sight)) (t : ℕ) (m : Mutating) (collected served : Bool) (h : List Item) (g : AbstractState) : Type 0 where
   pub come : HasCome task space seen h g
   pub between : IsQuiescent space g

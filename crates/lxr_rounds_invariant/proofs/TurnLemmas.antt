@@ -1,4 +1,4 @@
--- How the answering of waiting `new`s goes over the threads, from the pause behind an epoch to the next epoch.
+-- How the answering of waiting `new`s goes over the threads, from the pause after an epoch to the next epoch.
 use Rattle.std.proofs.Common.{◌≡◌, ◌≢◌, ℕ, suc, ◌+◌, ◌*◌, ◌<◌, ◌≤◌, ◌⊎◌, ◌↔◌, refl, sym, ap, subst, ◌∙◌, inl, inr, ⊎_elim, arith, Bool, true, false, ◌&&◌, ◌||◌, List, ◌∷◌, length, length-set, nat_eq}
 use Rattle.std.specs.Prelude.{Option, Some, slice_get, slice_set, if◌then◌else◌}
 use Rattle.std.proofs.lemmas.List.{length_push}
@@ -46,7 +46,7 @@ use Rattle.lxr_rounds_invariant.proofs.ServingLemmas.{MayServe, full_cause, full
 
 -- ---- calls of `new`
 
--- nothing but such calls stands behind the last pause with one more
+-- nothing but such calls stands after the last pause with one more
 only_news : (t : ℕ) (o : Op) (r : Reply) (h : List Item) → ((dest : ℕ) × (shape : Shape) × (o ≡ op.New dest shape)) → OnlyNewsSincePause h → OnlyNewsSincePause (Call t o r ∷ h)
 only_news t o r h (dest, shape, is) news = subst (λ x. OnlyNewsSincePause (Call t x r ∷ h)) (sym is) news
 
@@ -56,7 +56,7 @@ collected_since t o h (dest, shape, is) since = subst (λ x. IsCollectedSince (C
 
 -- ---- the beginning
 
--- behind the pause of an epoch no `new` is answered yet, and none is owed its call
+-- after the pause of an epoch no `new` is answered yet, and none is owed its call
 pub serving_begins : (task : Task) (space : Space) (seen : Option (List Sight)) (mutators : List Mutating) (h : List Item) (asked : Ask) (collected : Bool) (report : PauseReport) (g : AbstractState)
     → HaveMutators task h mutators → NewsWait mutators → HasMore mutators → asked ≡ asked_by collected → (asked ≡ ask.Collect) ↔ MustCollect (terms_of task) h → HasPaused task space seen h asked report g
     → IsServing task space seen mutators space.pauses collected mutators 0 false (Pause report ∷ h) g
@@ -183,7 +183,7 @@ module _ (task : Task) (space : Space) (seen : Option (List Sight)) (before : Li
       pub collection_right : IsAskedRight task h ask.Collect
       collection_right = inr (refl, serving.only_news)
 
-      -- behind that pause its turn comes first
+      -- after that pause its turn comes first
       pub serving_again : (space' : Space) (seen' : Option (List Sight)) (report : PauseReport) (g' : AbstractState) → HasPaused task space' seen' h ask.Collect report g' → space'.pauses ≡ space.pauses + 1
           → IsServing task space' seen' before paused true mutators 0 false (Pause report ∷ h) g'
       serving_again space' seen' report g' has_paused one = record {

@@ -63,7 +63,7 @@ pub record ListsAnew (before after : Space) (g : AbstractState) : Type 0 where
   pub tally : after.tally ≡ before.tally
   pub pauses : after.pauses ≡ before.pauses
 
--- A run is between epochs again, and has done something, once a pause is made behind an epoch, each waiting `new` is served or
+-- A run is between epochs again, and has done something, once a pause is made after an epoch, each waiting `new` is served or
 -- refused, and runs and free blocks are listed.
 pub record IsAgain (task : Task) (space : Space) (seen : Option (List Sight)) (before actors : List AnyActor) (h : List Item) (g : AbstractState) : Type 0 where
   pub amid : IsBetweenEpochs task space seen actors h g
@@ -76,7 +76,7 @@ RunsGoOn = (task : Task) (safepoint space after : Space) (seen seen' : Option (L
 
 -- ---- the end
 
--- where all threads have ended, the pause behind the epoch is the last, and the history is whole
+-- where all threads have ended, the pause after the epoch is the last, and the history is whole
 abbrev pub RunsEnd : Type 0
 RunsEnd = (task : Task) (safepoint space : Space) (seen seen' : Option (List Sight)) (before actors : List AnyActor) (h : List Item) (g : AbstractState) (asked : Ask)
     → HasRunEpoch task safepoint seen before actors h g → HaveEnded (mutators_in actors) → IsPaused task space seen' h asked → HasRun task space seen' actors

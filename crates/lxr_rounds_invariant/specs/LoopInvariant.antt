@@ -146,7 +146,7 @@ abbrev pub asked_by : Bool → Ask
 asked_by collects = if collects then ask.Collect else ask.Ordinary
 
 -- A pause after h is asked to collect exactly where it must; or it is asked to for a `new` that waits, where nothing but calls of `new`
--- stands behind the last pause.
+-- stands after the last pause.
 abbrev pub IsAskedRight : Task → List Item → Ask → Type 0
 IsAskedRight task h asked = ((asked ≡ ask.Collect) ↔ MustCollect (terms_of task) h) ⊎ ((asked ≡ ask.Collect) × OnlyNewsSincePause h)
 
@@ -200,7 +200,7 @@ pub record OwesOne (task : Task) (space : Space) (before : List Mutating) (pause
   pub unserved : served ≡ false
   pub few : ArePausesFew space before paused mutators 1
 
--- While waiting `new`s are answered behind a pause: in this call, those of the first threads are served or refused. The mutators were
+-- While waiting `new`s are answered after a pause: in this call, those of the first threads are served or refused. The mutators were
 -- `before` when the first call began, and so many pauses had been made. `collected` tells that a collecting pause stands before this
 -- call, `served` that a `new` was served in it.
 pub record IsServing (task : Task) (space : Space) (seen : Option (List Sight)) (before : List Mutating) (paused : ℕ) (collected : Bool) (mutators : List Mutating) (first : ℕ) (served : Bool) (h : List Item) (g : AbstractState) : Type 0 where

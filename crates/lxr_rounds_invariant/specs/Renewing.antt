@@ -29,7 +29,7 @@ pub record AreRenewed (ns : List Name) (before after : List AnyActor) : Type 0 w
   pub order : AreInOrder after
 
 -- The names of what is left may be renewed between two epochs, which are these and the world's: the run's terms allow it, the last pause was a
--- draining one, behind which no trace runs, and no thread has ended.
+-- draining one, after which no trace runs, and no thread has ended.
 pub record MayBeRenewed (task : Task) (actors : List AnyActor) (h : List Item) (g : AbstractState) (ns : List Name) : Type 0 where
   pub renews : task.renews ≡ true
   pub behind : IsBehindDraining h

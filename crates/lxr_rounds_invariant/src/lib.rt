@@ -19,7 +19,7 @@ pub fn epochs_run()
     ensures { EpochsRun }
 {}
 
-/// Once waiting `new`s are served behind a pause, the run is between epochs again, with more operations done.
+/// Once waiting `new`s are served after a pause, the run is between epochs again, with more operations done.
 pub fn runs_go_on()
     ensures { RunsGoOn }
 {}

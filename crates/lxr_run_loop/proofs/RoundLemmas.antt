@@ -22,6 +22,7 @@ use Rattle.lxr_text_stream.specs.declared.transfer.WriteError.{WriteError}
 use Rattle.lxr_run_loop.proofs.TellerLemmas.{text_front}
 use Rattle.lxr_run_loop.specs.declared.teller.Teller.{Teller}
 use Rattle.lxr_run_loop.specs.Drawing.{IsDrawn, by_answers, by_epoch, by_listing}
+use Rattle.lxr_placing.specs.Listing.{ListsAll}
 use Rattle.lxr_rounds.specs.Following.{HasFollowed, IsFollowedByPause}
 use Rattle.lxr_run_loop.specs.Progress.{HasMadeEpoch, HasMadeRound, IsBetweenRounds, IsThere}
 use Rattle.lxr_rounds.proofs.EndedLemmas.{left_no_more}
@@ -29,10 +30,10 @@ use Rattle.lxr_rounds.proofs.EndedLemmas.{left_no_more}
 -- ---- the teller
 
 -- what follows an epoch was told
-pub told_behind : (told : List Item → List Item → Type 0) (ended : Bool) (task : rounds.Task) (before after : Space) (seen : Option (List Sight)) (earlier actors actors' : List AnyActor) (h : List Item)
-    → HasFollowed ended told task before after seen earlier actors actors' h → (k : List Item) × told h k
-told_behind told true task before after seen earlier actors actors' h last = (Pause last.pause.report ∷ h, last.tells)
-told_behind told false task before after seen earlier actors actors' h next = (next.history, next.tells)
+pub told_behind : (lists_so : Space → Space → Type 0) (told : List Item → List Item → Type 0) (ended : Bool) (task : rounds.Task) (before after : Space) (seen : Option (List Sight)) (earlier actors actors' : List AnyActor) (h : List Item)
+    → HasFollowed ended lists_so told task before after seen earlier actors actors' h → (k : List Item) × told h k
+told_behind lists_so told true task before after seen earlier actors actors' h last = (Pause last.pause.report ∷ h, last.tells)
+told_behind lists_so told false task before after seen earlier actors actors' h next = (next.history, next.tells)
 
 -- the course behind a round
 abbrev course_by : Teller → Option ℕ → Course
@@ -69,18 +70,18 @@ module _ (task : RunTask) (space after : Space) (written : Option (List ℕ)) (s
 
   -- By what has followed it the round is made. What was told of the histories before and behind that has a teller that stood behind the one stand behind
   -- the other.
-  pub round : (told : List Item → List Item → Type 0) (ended : Bool) (again : Space) (written' : Option (List ℕ)) (seen' : Option (List Sight)) (actors' : List AnyActor) (teller teller' : Teller)
-      → HasFollowed ended told (rounds_of task) after again seen' before actors actors' made.history → StandsBehind task teller written made.history
+  pub round : (lists_so : Space → Space → Type 0) → ((before after : Space) → lists_so before after → ListsAll before after) → (told : List Item → List Item → Type 0) (ended : Bool) (again : Space) (written' : Option (List ℕ)) (seen' : Option (List Sight)) (actors' : List AnyActor) (teller teller' : Teller)
+      → HasFollowed ended lists_so told (rounds_of task) after again seen' before actors actors' made.history → StandsBehind task teller written made.history
       → ((k : List Item) → told made.history k → StandsBehind task teller written made.history → StandsBehind task teller' written' k) → AreFew teller'.totals again.pauses → TellsByOptions task.options again
       → HasMadeRound task again written' seen' before actors' (record { generator = x'; totals = teller'.totals; order = teller'.order }) ended
-  round told true again written' seen' actors' teller teller' last stands follows few listed =
+  round lists_so all told true again written' seen' actors' teller teller' last stands follows few listed =
       let stands' = follows (Pause last.pause.report ∷ made.history) last.tells stands in
       subst (λ left. IsThere task again written' seen' before left (record { generator = x'; totals = teller'.totals; order = teller'.order })) (sym last.same)
       (record {
         complete = (Pause last.pause.report ∷ made.history, record { rounds = last.ran; text = stands'.text; told = listed }, drawn_on true again seen' last.pause, stands'.totals, stands'.order, made.full);
         no_more = left_no_more (rounds_of task) h made.history (mutators_in before) (mutators_in actors) amid.epochs.actors_rest.mutators made.ran.actors_rest.mutators made.ran.grows;
       })
-  round told false again written' seen' actors' teller teller' next stands follows few listed =
+  round lists_so all told false again written' seen' actors' teller teller' next stands follows few listed =
       let stands' = follows next.history next.tells stands in record {
         under_way = (
           next.history,
@@ -89,7 +90,7 @@ module _ (task : RunTask) (space after : Space) (written : Option (List ℕ)) (s
           by_listing next.history x' next.answered again actors'
               (by_answers (Pause next.pause.report ∷ made.history) next.history x' next.pause.abstract_state next.collects next.paused next.answered actors actors' next.sighted
               (drawn_on next.collects next.paused next.sighted next.pause) next.begins next.answers next.keeps)
-              next.lists,
+              (all next.answered again next.lists),
           record { are = stands'.totals; few = few; order = stands'.order },
         );
         less = left_less (rounds_of task) h next.history (mutators_in before) (mutators_in actors') amid.epochs.actors_rest.mutators next.again.amid.actors_rest.mutators next.again.more;

@@ -82,7 +82,7 @@ pub record MakesEpoch (task : RunTask) (space : Space) (actors : List AnyActor) 
 
 -- The history of a run, whose generator begins with the number that the options give, if they give one, and goes on from epoch to epoch:
 -- behind this history it has come to x, and the run to this space and these actors. It begins with an opened space and actors as they are
--- made. One pause stands behind each epoch, which collects exactly where it must; what waits is answered behind it, with more pauses where
+-- made. One pause stands after each epoch, which collects exactly where it must; what waits is answered behind it, with more pauses where
 -- room is wanted; then runs and free blocks are listed for the next epoch. Epochs alone draw from the generator, and what one of these
 -- steps leaves is what the next one begins with.
 pub data IsDrawn (task : RunTask) : List Item → Option ℕ → Space → List AnyActor → Type 0 where

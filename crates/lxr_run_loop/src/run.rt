@@ -16,6 +16,7 @@ use crate::order::Order;
 use lxr_core::{AnyActor, close_epoch, open_epoch};
 use lxr_image::Space;
 use lxr_one_pause::Pace;
+use lxr_placing::ToList;
 use lxr_rounds::follow_epoch;
 use lxr_run_threads::run_epoch;
 use lxr_sights::{Gate, Watch};
@@ -153,7 +154,16 @@ fn make_round<R: Threads + Wait + Sync, G: Gate, W: Watch, O: Sink>(
         return Err(WriteError::Memory);
     };
     let mut teller = course.take_teller(options);
-    let followed = follow_epoch(space, actors, pace_of(options), watch, &mut teller, output);
+    let mut to_list = ToList::All;
+    let followed = follow_epoch(
+        space,
+        actors,
+        pace_of(options),
+        &mut to_list,
+        watch,
+        &mut teller,
+        output,
+    );
     course.put_teller(teller);
     followed
 }

@@ -23,7 +23,7 @@ can_be_replayed b execution holds = record {
       (on.holds.1.mutators i m (subst (λ (core : Core AnyActor). slice_get (mutators_in core.actors) i ≡ Some m) (sym on.core) at)).sound;
 }
 
--- behind a schedule the epoch may be closed
+-- after a schedule the epoch may be closed
 pub may_close : SchedulesMayClose
 may_close b execution schedule before after actors actors' has =
     let on = epoch_invariant_holds b execution schedule has.holds in

@@ -95,7 +95,7 @@ pub all_finish : (core : Core AnyActor) (numbers : List ℕ) → StepsOfFirst co
 all_finish core [] firsts resting = resting
 all_finish core (k ∷ ks) firsts resting = (firsts.0, all_finish (event any_machine core (Step k)) ks firsts.1 resting)
 
--- behind the draws units were finished
+-- after the draws units were finished
 pub record HasReplayedTo (tracing : Bool) (x : ℕ) (core : Core AnyActor) (x' : ℕ) (core' : Core AnyActor) : Type 0 where
   pub schedule : List ℕ
   pub replays : Replays tracing x core schedule x'

@@ -58,7 +58,7 @@ pub record HaveHelpers (options : Options) (count : ℕ) : Type 0 where
   pub workers : (1 ≤ options.workers) × (options.workers ≤ 8)
   pub helpers : 2 * options.workers ≤ count
 
--- ---- behind the opening of an epoch
+-- ---- after the opening of an epoch
 
 -- there are as many decrementers as the options have workers, and as many tracers, and not too many actors
 pub record HaveWorkers (options : Options) (actors : List AnyActor) : Type 0 where

@@ -33,7 +33,7 @@ abbrev pub ended_with_work : Option Turn → Bool
 ended_with_work None = false
 ended_with_work (Some how) = has_worked how
 
--- Behind a unit the pass is through with the epoch where that ended neither with an operation done nor with work, and a helper's also where it has
+-- After a unit the pass is through with the epoch where that ended neither with an operation done nor with work, and a helper's also where it has
 -- made as many turns as it may.
 abbrev pub is_through : ℕ → Standing → Bool
 is_through most s = not (ended_with_work (end_of s.pass.actor)) || (is_helper s.pass.actor && nat_le most s.turns)

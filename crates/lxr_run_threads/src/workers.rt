@@ -265,7 +265,7 @@ fn let_mutate<G: Gate>(table: &PassTable<AnyActor>, pass: &mut Pass, gate: &G) -
     mutate(table, pass)
 }
 
-/// One turn of a mutator, whose operation was let pass. Whether it goes on: behind a unit it does exactly where that ended with `OpDone`.
+/// One turn of a mutator, whose operation was let pass. Whether it goes on: after a unit it does exactly where that ended with `OpDone`.
 #[inline(always)]
 pub(crate) fn mutate(table: &PassTable<AnyActor>, pass: &mut Pass) -> bool
     requires can { CanBeReplayed table.now.opening }

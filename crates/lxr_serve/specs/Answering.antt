@@ -1,4 +1,4 @@
--- How the `new`s that wait are answered behind a pause, in order of threads, until one of them asks for a collecting pause.
+-- How the `new`s that wait are answered after a pause, in order of threads, until one of them asks for a collecting pause.
 use Rattle.std.specs.Prelude.{◌≡◌, ℕ, ◌+◌, ◌⊎◌, Bool, true, false, Some, List, ◌∷◌, length, slice_get, slice_set}
 use Rattle.lxr_layout.specs.declared.Place.{Place}
 use Rattle.lxr_layout.specs.declared.Shape.{Shape}

@@ -38,6 +38,7 @@ use Rattle.lxr_core.proofs.TracerLemmas.{tracers_run}
 use Rattle.lxr_shared.specs.Sharing.{Sharing}
 use Rattle.lxr_shared_passes.specs.Passing.{IsSeen}
 use Rattle.lxr_one_pause.specs.Telling.{TellsWanted}
+use Rattle.lxr_placing.specs.declared.listing.ToList.{ToList}
 use Rattle.lxr_rounds_invariant.specs.Laws.{HasClosed, asked_for, beginning_of}
 use Rattle.lxr_rounds_invariant.specs.LoopInvariant.{HasRunEpoch, HasRunTo, HaveMutators, IsBetweenEpochs, Task, pace_of, terms_of}
 use Rattle.lxr_model.specs.Kinds.{ends}
@@ -58,7 +59,7 @@ use Rattle.lxr_stations.specs.Arriving.{HasComeHome, IsHandedIn, Tells}
 use Rattle.lxr_stations.specs.Stations.{IsNotOut, Lived, Stationed, housed_in}
 use Rattle.lxr_stations.specs.Gathering.{HaveEndedFrom, HoldGivenUp, IsUnclosed, IsWantedByAll}
 use Rattle.lxr_shared_heap.specs.declared.settings.Settings.{Settings}
-use Rattle.lxr_shared_heap.specs.Heaps.{AreAsHandedIn, ComesToRest, HasOpened, HasPaused, HasPausedWith, Heaped, HeapsHaveHistories, IsAtRest, IsHeapOf, IsKept, IsRenewed, Pauses, PausesWith, Resumes, StandsFor, TellsRenewed, actors_of, paused_for, space_at, still_asked}
+use Rattle.lxr_shared_heap.specs.Heaps.{AreAsHandedIn, ComesToRest, HasOpened, HasPaused, HasPausedWith, HasListed, Heaped, HeapsHaveHistories, IsAtRest, IsHeapOf, IsKept, IsRenewed, Pauses, PausesWith, Resumes, StandsFor, TellsRenewed, actors_of, paused_for, space_at, still_asked}
 use Rattle.lxr_stations.specs.Living.{AreLive}
 use Rattle.lxr_stations.specs.Running.{BeganWith, ClosesLive, IsRunning, shown_of}
 use Rattle.lxr_shared_heap.specs.Renewing.{RenewsWhere, StandsIdle, actor_renewed, ends_with_renewal, waits}
@@ -329,11 +330,11 @@ newest_behind task report calls mutators space actors h g (inr behind) amid newe
     answers_newest (pace_of task.plan) behind.collected mutators (mutators_in actors) behind.paused behind.answered (Pause report ∷ calls) h behind.answers newest
 
 -- and once the pause is made behind it, the heap stands for what that has led to
-pub has_paused : (handed : List (Option Arrival)) (settings : Settings) (script : Script) (h : List Item) (live : Lived) (now : Stage) (of : IsHeapOf script h (record { settings = settings; stage = stage.Within live })) (space : Space) (actors : List AnyActor)
+pub has_paused : (handed : List (Option Arrival)) (settings : Settings) (l l' : ToList) (script : Script) (h : List Item) (live : Lived) (now : Stage) (of : IsHeapOf script h (record { settings = settings; stage = stage.Within live; to_list = l })) (space : Space) (actors : List AnyActor)
     → RunsOn settings script h live.epoch of.stands handed space actors
     → ((script : Script) (earlier : List AnyActor) (calls : List Item) (g : AbstractState) → HasRunEpoch (run_of settings script) space None earlier actors calls g → EndByNewest calls (mutators_in actors) → ComesToRest settings script calls (mutators_in actors) now)
-    → HasPaused script h (record { settings = settings; stage = stage.Within live }) of (record { settings = settings; stage = now })
-has_paused handed settings script h live now of space actors on comes =
+    → HasListed l now l' → HasPaused script h (record { settings = settings; stage = stage.Within live; to_list = l }) of (record { settings = settings; stage = now; to_list = l' })
+has_paused handed settings l l' script h live now of space actors on comes lists =
     let rest = comes on.script' on.before on.calls on.abstract_state on.ran on.newest in record {
       script' = on.script';
       goes_on = on.goes_on;
@@ -342,6 +343,7 @@ has_paused handed settings script h live now of space actors on comes =
       told = on.told;
       extends = on.extends;
       settings = refl;
+      lists = lists;
       mutators = mutators_in actors;
       come = on.come;
       asked = on.ran.actors_rest.mutators.script;
@@ -352,13 +354,13 @@ has_paused handed settings script h live now of space actors on comes =
     }
 
 -- so it is with mutators that were handed in
-pub has_paused_with : (handed : List (Option Arrival)) (settings : Settings) (script : Script) (h : List Item) (live : Lived) (now : Stage) (of : IsHeapOf script h (record { settings = settings; stage = stage.Within live })) (space : Space) (actors : List AnyActor)
+pub has_paused_with : (handed : List (Option Arrival)) (settings : Settings) (l l' : ToList) (script : Script) (h : List Item) (live : Lived) (now : Stage) (of : IsHeapOf script h (record { settings = settings; stage = stage.Within live; to_list = l })) (space : Space) (actors : List AnyActor)
     → RunsOn settings script h live.epoch of.stands handed space actors
     → ((script : Script) (earlier : List AnyActor) (calls : List Item) (g : AbstractState) → HasRunEpoch (run_of settings script) space None earlier actors calls g → EndByNewest calls (mutators_in actors) → ComesToRest settings script calls (mutators_in actors) now)
-    → AreAsHandedIn handed (mutators_in actors) → HasPausedWith handed script h (record { settings = settings; stage = stage.Within live }) of (record { settings = settings; stage = now })
+    → HasListed l now l' → AreAsHandedIn handed (mutators_in actors) → HasPausedWith handed script h (record { settings = settings; stage = stage.Within live; to_list = l }) of (record { settings = settings; stage = now; to_list = l' })
 unfolding has_paused
-has_paused_with handed settings script h live now of space actors on comes same = record {
-  made = has_paused handed settings script h live now of space actors on comes;
+has_paused_with handed settings l l' script h live now of space actors on comes lists same = record {
+  made = has_paused handed settings l l' script h live now of space actors on comes lists;
   as_handed_in = same;
   seen = on.seen;
   begun = on.begun;
@@ -376,8 +378,8 @@ paused_some paused.Ended before after is script h of = (script, h, subst (IsHeap
 paused_some paused.Lost before after is script h of = (script, h, subst (IsHeapOf script h) (sym is.1) of)
 
 -- a heap has as many actors as its settings say, while an epoch is open
-pub actors_many : (settings : Settings) (script : Script) (h : List Item) (live : Lived) → IsHeapOf script h (record { settings = settings; stage = stage.Within live }) → length live.epoch.opening.actors ≡ actors_of settings
-actors_many settings script h live of =
+pub actors_many : (settings : Settings) (l : ToList) (script : Script) (h : List Item) (live : Lived) → IsHeapOf script h (record { settings = settings; stage = stage.Within live; to_list = l }) → length live.epoch.opening.actors ≡ actors_of settings
+actors_many settings l script h live of =
     let open_epoch = of.stands in
     let opened = open_epoch.running.opened in
     let all = lengths_add opened.core.actors in
@@ -388,11 +390,11 @@ actors_many settings script h live of =
     ap (λ (k : Core AnyActor). length k.actors) (sym open_epoch.running.core) ∙ (omega arith)
 
 -- where an epoch is not closed, nothing has changed
-pub not_closed : (settings : Settings) (live : Lived) (handed : List (Option Arrival)) (reason : NotClosed) → length live.epoch.opening.actors ≡ actors_of settings → IsUnclosed (length live.epoch.opening.actors) 0 handed reason
-    → (reason ≡ why.NotWanted → ¬ HaveEndedFrom (length live.epoch.opening.actors) 0 handed) → (reason ≡ why.Shared → IsWantedByAll (housed_in live) 0 handed []) → PausesWith handed (paused_for reason) (record { settings = settings; stage = stage.Within live }) (record { settings = settings; stage = stage.Within live })
-not_closed settings live handed (why.Away number) many (from, less, none) unended wanted = ((tt, subst (λ n. number < n) many less, refl), none)
-not_closed settings live handed why.NotWanted many none unended wanted = ((tt, refl), (λ number s at. none number s (omega arith) at), subst (λ n. ¬ HaveEndedFrom n 0 handed) many (unended refl))
-not_closed settings live handed why.Shared many is unended wanted = ((tt, refl), wanted refl)
+pub not_closed : (settings : Settings) (l : ToList) (live : Lived) (handed : List (Option Arrival)) (reason : NotClosed) → length live.epoch.opening.actors ≡ actors_of settings → IsUnclosed (length live.epoch.opening.actors) 0 handed reason
+    → (reason ≡ why.NotWanted → ¬ HaveEndedFrom (length live.epoch.opening.actors) 0 handed) → (reason ≡ why.Shared → IsWantedByAll (housed_in live) 0 handed []) → PausesWith handed (paused_for reason) (record { settings = settings; stage = stage.Within live; to_list = l }) (record { settings = settings; stage = stage.Within live; to_list = l })
+not_closed settings l live handed (why.Away number) many (from, less, none) unended wanted = ((tt, subst (λ n. number < n) many less, refl), none)
+not_closed settings l live handed why.NotWanted many none unended wanted = ((tt, refl), (λ number s at. none number s (omega arith) at), subst (λ n. ¬ HaveEndedFrom n 0 handed) many (unended refl))
+not_closed settings l live handed why.Shared many is unended wanted = ((tt, refl), wanted refl)
 
 -- the wish for a pause with stations that are handed in is one for a pause
 pub pauses_alone : (handed : List (Option Arrival)) (p : Paused) (before after : Heaped) → PausesWith handed p before after → Pauses p before after
@@ -465,15 +467,15 @@ is_rest stage.Lost space is = absurd (cc)
 -- ---- passes
 
 -- why an epoch keeps a pass is why its heap does
-kept_by : (settings : Settings) (live : Lived) (number : ℕ) → length live.epoch.opening.actors ≡ actors_of settings → (why : NotOut) → IsNotOut (length live.epoch.opening.actors) number why → IsKept (record { settings = settings; stage = stage.Within live }) number why
-kept_by settings live number many kept.NotRunning is = absurd is
-kept_by settings live number many kept.Ended is = absurd is
-kept_by settings live number many kept.Lost is = absurd is
-kept_by settings live number many kept.NoSuch is = (tt, subst (λ n. n ≤ number) many is)
-kept_by settings live number many kept.Away is = (tt, subst (λ n. number < n) many is)
-kept_by settings live number many (kept.Memory refused) is = (tt, subst (λ n. number < n) many is)
+kept_by : (settings : Settings) (l : ToList) (live : Lived) (number : ℕ) → length live.epoch.opening.actors ≡ actors_of settings → (why : NotOut) → IsNotOut (length live.epoch.opening.actors) number why → IsKept (record { settings = settings; stage = stage.Within live; to_list = l }) number why
+kept_by settings l live number many kept.NotRunning is = absurd is
+kept_by settings l live number many kept.Ended is = absurd is
+kept_by settings l live number many kept.Lost is = absurd is
+kept_by settings l live number many kept.NoSuch is = (tt, subst (λ n. n ≤ number) many is)
+kept_by settings l live number many kept.Away is = (tt, subst (λ n. number < n) many is)
+kept_by settings l live number many (kept.Memory refused) is = (tt, subst (λ n. number < n) many is)
 
-pub kept_for : {A : Type 0} (settings : Settings) (script : Script) (h : List Item) (live : Lived) (number : ℕ) (r : Result A NotOut) → IsHeapOf script h (record { settings = settings; stage = stage.Within live })
-    → IfErr r (λ why. IsNotOut (length live.epoch.opening.actors) number why) → IfErr r (λ why. IsKept (record { settings = settings; stage = stage.Within live }) number why)
-kept_for settings script h live number (Ok a) of is = is
-kept_for settings script h live number (Err why) of is = kept_by settings live number (actors_many settings script h live of) why is
+pub kept_for : {A : Type 0} (settings : Settings) (l : ToList) (script : Script) (h : List Item) (live : Lived) (number : ℕ) (r : Result A NotOut) → IsHeapOf script h (record { settings = settings; stage = stage.Within live; to_list = l })
+    → IfErr r (λ why. IsNotOut (length live.epoch.opening.actors) number why) → IfErr r (λ why. IsKept (record { settings = settings; stage = stage.Within live; to_list = l }) number why)
+kept_for settings l script h live number (Ok a) of is = is
+kept_for settings l script h live number (Err why) of is = kept_by settings l live number (actors_many settings l script h live of) why is

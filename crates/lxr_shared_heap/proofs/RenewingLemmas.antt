@@ -48,7 +48,7 @@ use Rattle.lxr_rounds_invariant.proofs.RenewingLemmas.{run_renewed}
 use Rattle.lxr_rounds_invariant.specs.LoopInvariant.{HasCome, IsBetweenEpochs, Task, terms_of, threads_of}
 use Rattle.lxr_shared_heap.specs.declared.settings.Settings.{Settings}
 use Rattle.lxr_stations.specs.Living.{AreLive, IsLive}
-use Rattle.lxr_shared_heap.specs.Renewing.{CanActorRenew, HasRenewed, StandsIdle, actor_renewed, has_drained, is_at_end, is_renewal_due, is_worn}
+use Rattle.lxr_shared_heap.specs.Renewing.{CanActorRenew, HasRenewed, LeavesLists, StandsIdle, actor_renewed, has_drained, is_at_end, is_renewal_due, is_worn}
 use Rattle.lxr_shared_heap.specs.Settings.{run_of}
 use Rattle.lxr_stations.specs.Wanting.{is_ended}
 use Rattle.lxr_shared_heap.proofs.ToldLemmas.{between_told}
@@ -346,3 +346,8 @@ module _ (settings : Settings) (script : Script) (space : Space) (actors : List 
           live = still_live;
           told = subst (λ (s : Space). HasToldCounts s.report) (sym renews.space) (told_counts listing tells);
         }
+
+-- where names were renewed, runs and blocks are listed as before
+pub lists_left : (space listing after : Space) (g : AbstractState) (names : List Name) → ListsCounts space listing g.moment g.at → Renews listing after g names → LeavesLists space after
+lists_left space listing after g names tells renews =
+    let r = subst (λ s. Renews s after g names) tells.space renews in record { limits = ap (λ (s : Space). s.limits) r.space; tables = r.tables }

@@ -27,6 +27,8 @@ use Rattle.lxr_core.specs.Ordering.{TellNames}
 use Rattle.lxr_shared.specs.Sharing.{Sharing}
 use Rattle.lxr_shared_passes.specs.Passing.{IsSeen}
 use Rattle.lxr_one_pause.specs.Telling.{TellsWanted}
+use Rattle.lxr_placing.specs.declared.listing.ToList.{ToList}
+use Rattle.lxr_placing.specs.Listing.{Lists}
 use Rattle.lxr_rounds_invariant.specs.Laws.{beginning_of}
 use Rattle.lxr_rounds_invariant.specs.LoopInvariant.{HasRunTo, IsBetweenEpochs, Task, terms_of}
 use Rattle.lxr_shared_heap.specs.declared.heap.Paused.{Paused}
@@ -45,18 +47,19 @@ use Rattle.lxr_stations.specs.declared.station.Arrival.{Arrival}
 use Rattle.lxr_stations.specs.Arriving.{HasComeHome, IsHandedIn, Tells}
 use Rattle.lxr_stations.specs.Gathering.{HaveEndedFrom, IsWantedByAll}
 use Rattle.lxr_stations.specs.Living.{AreLive}
-use Rattle.lxr_shared_heap.specs.Renewing.{IsRenewalDue, ends_with_renewal}
+use Rattle.lxr_shared_heap.specs.Renewing.{IsRenewalDue, LeavesLists, ends_with_renewal}
 use Rattle.lxr_shared_heap.specs.Resting.{GoesOnBehind}
 use Rattle.lxr_stations.specs.Running.{IsRunning, shown_of}
-use Rattle.lxr_shared_heap.specs.Settings.{AreSettings, run_of}
+use Rattle.lxr_shared_heap.specs.Settings.{AreSettings, listed_first, run_of}
 use Rattle.lxr_stations.specs.Stations.{HasAnswered, HasGoneOn, IsStationOf, Stationed, asked, housed_in, is_mutator, replied}
 use Rattle.lxr_shared_heap.specs.Telling.{EndByNewest, HaveReplied, TellsAnswer, TellsHistory}
 use Rattle.lxr_stations.specs.Wanting.{Wants}
 
--- a heap: what it was opened with, and where it stands
+-- a heap: what it was opened with, where it stands, and which runs of free lines its next pause lists
 pub record Heaped : Type 0 where
   pub settings : Settings
   pub stage : Stage
+  pub to_list : ToList
 
 -- no epoch is open, and the heap is not lost
 abbrev pub IsAtRest : Stage → Type 0
@@ -171,12 +174,14 @@ HeapsHaveHistories = (script : Script) (h : List Item) (heap : Heaped) → IsHea
 -- it has these settings, stands before its first epoch, and nobody was asked for anything
 pub record IsOpened (settings : Settings) (heap : Heaped) : Type 0 where
   pub settings_are : heap.settings ≡ settings
+  pub lists : heap.to_list ≡ listed_first settings
   pub between : IsBetween heap.stage
   pub holds : IsHeapOf (replicate settings.mutators []) [] heap
 
 -- the heap stands elsewhere now, for the same
 pub record HasMoved (before after : Heaped) : Type 0 where
   pub settings : after.settings ≡ before.settings
+  pub lists : after.to_list ≡ before.to_list
   pub holds : (script : Script) (h : List Item) → IsHeapOf script h before → IsHeapOf script h after
 
 -- what has come of the wish for an epoch
@@ -272,9 +277,18 @@ abbrev pub HaveCome : Stage → List Event → List Mutating → Type 0
 HaveCome (stage.Within live) events mutators = mutators ≡ map given_up (mutators_in (run any_machine live.epoch.opening events).actors)
 HaveCome _ events mutators = ⊥
 
+-- What a pause has listed for the next epoch: all free blocks, and of the runs those that were to be listed; and those that the next pause lists
+-- follow on them. The heap stands there with these lists, whatever headers were written for new names since. After the last pause nothing is
+-- listed.
+abbrev pub HasListed : ToList → Stage → ToList → Type 0
+HasListed to_list (stage.Between space actors) next = (unlisted listed : Space) × Lists to_list unlisted listed next × LeavesLists listed space
+HasListed to_list (stage.Ended space actors) next = next ≡ to_list
+HasListed to_list _ next = ⊥
+
 -- A pause was made. By the end of the epoch, which some schedule of events has led to, its mutators were asked for more, and the history had gone
 -- on by calls alone, in which each has the replies that it showed; then the pause was made, which collects exactly where it must; the history goes
--- on behind it by what waited and by the further pauses for that; and behind all that the names of what is left are renewed where that is due.
+-- on behind it by what waited and by the further pauses for that; and behind all that runs are listed for the next epoch, where the last listing has
+-- ended, and the names of what is left are renewed where that is due.
 pub record HasPaused (script : Script) (h : List Item) (before : Heaped) (of : IsHeapOf script h before) (after : Heaped) : Type 0 where
   pub script' : Script
   pub goes_on : GoesOn script script'
@@ -283,6 +297,7 @@ pub record HasPaused (script : Script) (h : List Item) (before : Heaped) (of : I
   pub told : calls ≡ history_behind script h before of schedule
   pub extends : Extends (length script) before.settings.every h calls
   pub settings : after.settings ≡ before.settings
+  pub lists : HasListed before.to_list after.stage after.to_list
   pub mutators : List Mutating
   pub come : HaveCome before.stage schedule mutators
   pub asked : script_of mutators ≡ script'

@@ -5,6 +5,7 @@ use Rattle.lxr_layout.specs.declared.Name.{Name}
 use Rattle.lxr_layout.specs.declared.TheConstants.{MOST_GRANULES}
 use Rattle.lxr_graph.specs.History.{HasToldCounts, Item, PauseReport, Renew}
 use Rattle.lxr_image.specs.declared.space.Space.{Space}
+use Rattle.lxr_image.specs.Spaces.{tables_of}
 use Rattle.lxr_model.specs.Belongs.{Script}
 use Rattle.lxr_model.specs.Moments.{moment}
 use Rattle.lxr_model.specs.Reports.{is_draining}
@@ -103,6 +104,11 @@ pub record HasRenewed (settings : Settings) (actors : List AnyActor) (space' : S
   pub between : IsBetweenEpochs (run_of settings (script_of (mutators_in actors'))) space' None actors' (Renew names ∷ h) abstract_state
   pub live : AreLive (mutators_in actors')
   pub told : HasToldCounts space'.report
+
+-- of the tables the heap alone has changed, where headers are, so runs and blocks are listed as before
+pub record LeavesLists (before after : Space) : Type 0 where
+  pub limits : after.limits ≡ before.limits
+  pub tables : tables_of after ≡ record (tables_of before) { heap = (tables_of after).heap }
 
 -- so it is for each history where names are to be renewed; else nothing changes
 abbrev pub RenewsWhere : Bool → Space → List AnyActor → Bool → Space → List AnyActor → Type 0

@@ -11,6 +11,8 @@ use Rattle.lxr_core.specs.declared.actors.AnyActor.{AnyActor}
 use Rattle.lxr_core.specs.Actors.{mutators_in}
 use Rattle.lxr_core.specs.Ordering.{orders_of}
 use Rattle.lxr_one_pause.specs.Pausing.{IsDrained}
+use Rattle.lxr_placing.specs.Listing.{Lists}
+use Rattle.lxr_placing.specs.declared.listing.ToList.{ToList}
 use Rattle.lxr_rounds.specs.Answering.{AnswersWaiting}
 use Rattle.lxr_rounds_invariant.specs.LoopInvariant.{HasRunEpoch, HasRunTo, HaveEnded, HaveMutators, IsBetweenEpochs, SomeWait, Task, pace_of, terms_of}
 use Rattle.lxr_shared_heap.specs.declared.settings.Settings.{Settings}
@@ -49,6 +51,11 @@ pub record HasRested (task : Task) (calls : List Item) (actors : List AnyActor) 
   pub all_ended : IsTrue ended → HaveEnded (mutators_in actors')
   -- where no `new` waited for it and it drained, no decrement waits
   pub drained : ¬ SomeWait (mutators_in actors) → IsDrained space' (is_draining space'.report.kind)
+
+-- Runs and blocks were listed for the next epoch, of the runs those that were to be listed; after the last pause nothing was.
+abbrev pub ListsBehind : Bool → ToList → Space → ToList → Type 0
+ListsBehind true to_list space next = next ≡ to_list
+ListsBehind false to_list space next = (unlisted : Space) × Lists to_list unlisted space next
 
 -- a run with these settings has made an epoch that came to this space and these actors
 abbrev pub HasMadeEpoch : Settings → Space → List AnyActor → Type 0

@@ -7,7 +7,7 @@ ghost use Rattle.lxr_invariant.specs.AbstractState.{AbstractState};
 ghost use Rattle.lxr_one_pause.specs.Telling.{TellsWanted};
 ghost use Rattle.lxr_rounds_history.specs.Left.{last_report};
 ghost use Rattle.lxr_rounds_invariant.specs.LoopInvariant.{HasRunEpoch};
-ghost use Rattle.lxr_shared_heap.specs.Heaps.{ComesToRest, DoneIsTold, HeapsHaveHistories, IsAtRest, IsHeapOf, IsKept, IsOpened, IsPassOf, MutatorsComeFirst, MutatorsHaveLimits, OpenIsTold, Pauses, PausesWith, Resumes, StationsTellHistories, free_at, most_asked, most_asked_with, paused_for, space_at};
+ghost use Rattle.lxr_shared_heap.specs.Heaps.{ComesToRest, DoneIsTold, HasListed, HeapsHaveHistories, IsAtRest, IsHeapOf, IsKept, IsOpened, IsPassOf, MutatorsComeFirst, MutatorsHaveLimits, OpenIsTold, Pauses, PausesWith, Resumes, StationsTellHistories, free_at, most_asked, most_asked_with, paused_for, space_at};
 ghost use Rattle.lxr_core.specs.Actors.{mutators_in, script_of};
 ghost use Rattle.lxr_stations.specs.Living.{AreLive};
 ghost use Rattle.lxr_shared_heap.specs.Renewing.{ends_with_renewal};
@@ -25,6 +25,7 @@ use crate::settings::Settings;
 use lxr_core::AnyActor;
 use lxr_graph::Report;
 use lxr_image::Space;
+use lxr_placing::ToList;
 use lxr_sights::{Unseen, Watch};
 use lxr_stations::{Arrival, Live, NotClosed, NotOut, Station, Unclosed};
 use std::alloc::Global;
@@ -98,6 +99,7 @@ pub(crate) enum Stage {
 pub struct Heap {
     settings: Settings,
     stage: Stage,
+    to_list: ToList,
 }
 
 impl Model for Heap {
@@ -108,9 +110,9 @@ impl Model for Heap {
 
     ghost Value = { Heaped };
 
-    ghost view = { λ x. record { settings = x.settings; stage = x.stage } };
+    ghost view = { λ x. record { settings = x.settings; stage = x.stage; to_list = x.to_list } };
 
-    ghost invariant = { λ x. (script : Script) × (h : List Item) × IsHeapOf script h (record { settings = x.settings; stage = x.stage }) };
+    ghost invariant = { λ x. (script : Script) × (h : List Item) × IsHeapOf script h (record { settings = x.settings; stage = x.stage; to_list = x.to_list }) };
 }
 
 impl Heap {
@@ -129,6 +131,7 @@ impl Heap {
                     space: Packed::of(space),
                     actors,
                 },
+                to_list: settings.to_list(),
             }),
             Err(_) => Err(Refused::Memory),
         }
@@ -168,6 +171,9 @@ impl Heap {
     /// one by a `pause` or a `collect` in this epoch, or all have ended. It collects where `collect` was called since the last pause, and where
     /// all have ended; then it is the last. Else each `new` that waits is served behind it, or refused; those that find no room before a
     /// collecting pause have further pauses, which collect. It takes no memory and waits for nobody.
+    ///
+    /// Then runs of free lines are listed for the next epoch, all or, in a heap of more than 1,024 blocks, at most as many as the settings say, from
+    /// the block on at which the last listing ended and round the heap, and all free blocks.
     ///
     /// At its end it gives each object that is left a new name, where some mutator has been ordered more than half of what it can be, and so that
     /// a heap lives for ever though names have serials of 32 bits: behind a pause that drained its decrements and for which no `new` waited, where no
@@ -214,7 +220,7 @@ impl Heap {
         ensures { PausesWith arrivals.old result self.old self.new }
     {
         let stage = mem::replace(&mut self.stage, Stage::Lost);
-        let (stage, paused) = stage.paused(arrivals, self.settings, watch);
+        let (stage, paused) = stage.paused(arrivals, self.settings, &mut self.to_list, watch);
         self.stage = stage;
         paused
     }
@@ -276,8 +282,8 @@ impl Stage {
 
     /// The next epoch is opened, where none is open.
     fn resumed(self, alloc: Global) -> (Stage, Resumed)
-        requires { (settings : Settings) × (script : Script) × (h : List Item) × IsHeapOf script h (record { settings = settings; stage = self }) }
-        ensures { (settings : Settings) → Resumes result.1 (record { settings = settings; stage = self }) (record { settings = settings; stage = result.0 }) }
+        requires { (settings : Settings) × (to_list : ToList) × (script : Script) × (h : List Item) × IsHeapOf script h (record { settings = settings; stage = self; to_list = to_list }) }
+        ensures { (settings : Settings) (to_list : ToList) → Resumes result.1 (record { settings = settings; stage = self; to_list = to_list }) (record { settings = settings; stage = result.0; to_list = to_list }) }
     {
         match self {
             Stage::Between { space, actors } => match Live::open(
@@ -299,17 +305,18 @@ impl Stage {
         self,
         arrivals: &mut [Option<Arrival>],
         settings: Settings,
+        to_list: &mut ToList,
         watch: &mut W,
     ) -> (Stage, Paused)
-        requires heap { (script : Script) × (h : List Item) × IsHeapOf script h (record { settings = settings; stage = self }) }
+        requires heap { (script : Script) × (h : List Item) × IsHeapOf script h (record { settings = settings; stage = self; to_list = to_list.old }) }
         requires handed { (number : ℕ) (s : Stationed) → Tells arrivals.old number s → IsPassOf self number s }
-        ensures { PausesWith arrivals.old result.1 (record { settings = settings; stage = self }) (record { settings = settings; stage = result.0 }) }
+        ensures { PausesWith arrivals.old result.1 (record { settings = settings; stage = self; to_list = to_list.old }) (record { settings = settings; stage = result.0; to_list = to_list.new }) }
     {
         match self {
             Stage::Between { space, actors } => {
                 (Stage::Between { space, actors }, Paused::NotRunning)
             }
-            Stage::Within(live) => close_and_pause(live, arrivals, settings, watch),
+            Stage::Within(live) => close_and_pause(live, arrivals, settings, to_list, watch),
             Stage::Ended { space, actors } => (Stage::Ended { space, actors }, Paused::Ended),
             Stage::Lost => (Stage::Lost, Paused::Lost),
         }
@@ -321,14 +328,18 @@ fn close_and_pause<W: Watch>(
     live: Live,
     arrivals: &mut [Option<Arrival>],
     settings: Settings,
+    to_list: &mut ToList,
     watch: &mut W,
 ) -> (Stage, Paused)
-    requires heap { (script : Script) × (h : List Item) × IsHeapOf script h (record { settings = settings; stage = Stage.Within live }) }
+    requires heap { (script : Script) × (h : List Item) × IsHeapOf script h (record { settings = settings; stage = Stage.Within live; to_list = to_list.old }) }
     requires handed { AreArrivalsOf (housed_in live) arrivals.old }
-    ensures { PausesWith arrivals.old result.1 (record { settings = settings; stage = Stage.Within live }) (record { settings = settings; stage = result.0 }) }
+    ensures { PausesWith arrivals.old result.1 (record { settings = settings; stage = Stage.Within live; to_list = to_list.old }) (record { settings = settings; stage = result.0; to_list = to_list.new }) }
 {
     match live.close(arrivals) {
-        Ok((space, actors)) => (pause_behind(space, actors, settings, watch), Paused::Made),
+        Ok((space, actors)) => (
+            pause_behind(space, actors, settings, to_list, watch),
+            Paused::Made,
+        ),
         Err(Unclosed { live, why }) => (Stage::Within(live), paused_for(why)),
     }
 }
@@ -338,15 +349,17 @@ fn pause_behind<W: Watch>(
     mut space: Space,
     mut actors: Vec<AnyActor>,
     settings: Settings,
+    to_list: &mut ToList,
     watch: &mut W,
 ) -> Stage
     requires settings { AreSettings settings }
     requires made { HasMadeEpoch settings space actors.items }
     requires live { AreLive (mutators_in actors.items) }
-    ensures { (script : Script) (before : List AnyActor) (calls : List Item) (g : AbstractState) → HasRunEpoch (run_of settings script) space None before actors.items calls g → EndByNewest calls (mutators_in actors.items) → ComesToRest settings script calls (mutators_in actors.items) result }
+    ensures lists { HasListed to_list.old result to_list.new }
+    ensures rests { (script : Script) (before : List AnyActor) (calls : List Item) (g : AbstractState) → HasRunEpoch (run_of settings script) space None before actors.items calls g → EndByNewest calls (mutators_in actors.items) → ComesToRest settings script calls (mutators_in actors.items) result }
 {
     let idle = !some_waits(&actors);
-    if rest(&mut space, &mut actors, settings, watch) {
+    if rest(&mut space, &mut actors, settings, to_list, watch) {
         Stage::Ended {
             space: Packed::of(space),
             actors,

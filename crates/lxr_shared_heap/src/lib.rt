@@ -19,4 +19,4 @@ mod settings;
 
 pub use heap::{Heap, Paused, Refused, Resumed};
 pub use lxr_stations::{Answer, Arrival, Homecoming, NoShare, NotOut, Station};
-pub use settings::Settings;
+pub use settings::{LEAST_LISTED, RUNS_LISTED, Settings};

@@ -6,7 +6,7 @@ ghost use Rattle.lxr_model.specs.Belongs.{Script};
 ghost use Rattle.lxr_invariant.specs.AbstractState.{AbstractState};
 ghost use Rattle.lxr_core.specs.declared.actors.AnyActor.{AnyActor as ActorOf};
 ghost use Rattle.lxr_shared_heap.specs.declared.settings.Settings.{Settings as SettingsOf};
-ghost use Rattle.lxr_shared_heap.specs.Renewing.{CanActorRenew, RenewsWhere, StandsIdle, actor_renewed, has_drained, is_at_end, is_renewal_due, is_worn, waits};
+ghost use Rattle.lxr_shared_heap.specs.Renewing.{CanActorRenew, LeavesLists, RenewsWhere, StandsIdle, actor_renewed, has_drained, is_at_end, is_renewal_due, is_worn, waits};
 ghost use Rattle.lxr_model.specs.Reports.{is_draining};
 
 use lxr_core::AnyActor;
@@ -21,7 +21,8 @@ use lxr_renew::renew_names;
 /// that, and each mutator counts anew. It takes no memory.
 pub(crate) fn renew_where_due(space: &mut Space, actors: &mut [AnyActor], idle: bool)
     requires { (settings : SettingsOf) × (script : Script) × (h : List Item) × (g : AbstractState) × StandsIdle settings script space.old actors.old h g idle }
-    ensures { RenewsWhere (idle && is_renewal_due space.old actors.old) space.old actors.old idle space.new actors.new }
+    ensures renews { RenewsWhere (idle && is_renewal_due space.old actors.old) space.old actors.old idle space.new actors.new }
+    ensures lists { LeavesLists space.old space.new }
 {
     if idle && is_renewal_due(space, actors) {
         tell_counts(space);

@@ -1,10 +1,20 @@
 //! What a host settles once for a heap.
 ghost use Rattle.std.specs.Prelude.{◌≡◌, ◌≤◌, ◌↔◌, IsTrue};
 ghost use Rattle.lxr_rounds_invariant.specs.LoopInvariant.{pace_of};
-ghost use Rattle.lxr_shared_heap.specs.Settings.{AreSettings, limits_in, plan_in};
+ghost use Rattle.lxr_shared_heap.specs.Settings.{AreSettings, limits_in, listed_first, plan_in};
 
 use lxr_layout::{LEAST_REGISTERS, Limits, MOST_BLOCKS, REGISTERS};
 use lxr_one_pause::Pace;
+use lxr_placing::ToList;
+
+/// A heap of so many blocks at most has all its runs of free lines listed after each pause.
+const SMALL_HEAP: u32 = 1_024;
+
+/// How many runs are listed after a pause of a larger heap, where a host has no other wish: as many as a small heap can have.
+pub const RUNS_LISTED: u32 = 65_536;
+
+/// The fewest, which are as many as a block can have, so that each listing passes a block at least.
+pub const LEAST_LISTED: u32 = 64;
 
 /// What a heap is opened with.
 #[derive(Clone, Copy, Debug, PartialEq, Eq)]
@@ -29,6 +39,10 @@ pub struct Settings {
     pub trace: u32,
     /// After so many pauses a trace ends at the latest: 1 to 1,000,000.
     pub within: u32,
+    /// How many runs of free lines are listed after each pause at most, in turn round the heap, where it has more than 1,024 blocks; a smaller
+    /// one has all listed. At least `LEAST_LISTED`, and `RUNS_LISTED` mostly do: fewer make pauses shorter, and let mutators come to the end of
+    /// the list earlier, where a `new` waits for a pause.
+    pub runs: u32,
     /// Whether mutators tell the names of what they load and swap out, for which each such operation looks at a header. If not, the name in
     /// such a reply is `UNNAMED` of `lxr_mutator`.
     pub names: bool,
@@ -51,7 +65,7 @@ impl Settings {
         if self.registers < LEAST_REGISTERS || usize::from(self.registers) > REGISTERS {
             return false;
         }
-        if self.evacuate > self.blocks / 8 {
+        if self.evacuate > self.blocks / 8 || self.runs < LEAST_LISTED {
             return false;
         }
         is_within(self.trace, 1_000_000) && is_within(self.within, 1_000_000)
@@ -68,6 +82,20 @@ impl Settings {
             remember: self.remember,
             registers: self.registers,
             evacuate: self.evacuate,
+        }
+    }
+
+    /// Which runs of free lines are listed after the first pause: all in a small heap, and else as many as are wished for, in turn.
+    pub(crate) fn to_list(self) -> ToList
+        ensures { result ≡ listed_first self }
+    {
+        if self.blocks > SMALL_HEAP {
+            ToList::InTurn {
+                most: self.runs,
+                from: 0,
+            }
+        } else {
+            ToList::All
         }
     }
 

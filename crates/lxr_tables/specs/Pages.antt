@@ -1,5 +1,5 @@
 -- A row of words that is written a page at a time, and the notes of which pages are written.
-use Rattle.std.specs.Prelude.{◌≡◌, ℕ, ◌+◌, ◌*◌, ◌/◌, ◌<◌, ◌≤◌, Bool, true, false, List, Option, Some, None, length, slice_index, slice_index_or}
+use Rattle.std.specs.Prelude.{◌≡◌, ◌≢◌, ℕ, ◌+◌, ◌*◌, ◌/◌, ◌<◌, ◌≤◌, Bool, true, false, List, Option, Some, None, length, slice_index, slice_index_or}
 use Rattle.std.specs.Mem.Slots.{slots_items, slots_filled, slots_len, IsFull}
 use Rattle.core.specs.declared.slots.Slots.{Slots}
 use Rattle.lxr_tables.specs.declared.pages.TheConstants.{WORDS_IN_PAGE}
@@ -19,3 +19,10 @@ pub record IsPaged (row : Slots ℕ) (notes : List Bool) : Type 0 where
 abbrev pub IsReadable : Slots ℕ → Option (List Bool) → Type 0
 IsReadable row None = IsFull row
 IsReadable row (Some notes) = IsPaged row notes
+
+-- the page of the word at an index has a word that isn't 0
+pub record IsInUsedPage (words : List ℕ) (at : ℕ) : Type 0 where
+  pub other : ℕ
+  pub there : other < length words
+  pub page : other / WORDS_IN_PAGE ≡ at / WORDS_IN_PAGE
+  pub some : slice_index words other ≢ 0

@@ -9,7 +9,7 @@
 ghost use Rattle.std.specs.Prelude.{◌≡◌, ℕ, ◌+◌, ◌<◌, ◌≤◌, List, [], length, slice_index, slice_set, replicate, IfOk};
 ghost use Rattle.std.specs.Mem.Slots.{slots_items};
 ghost use Rattle.atomic_table.specs.Table.{opening, Final, Seen};
-ghost use Rattle.lxr_tables.specs.Pages.{IsReadable};
+ghost use Rattle.lxr_tables.specs.Pages.{IsInUsedPage, IsReadable};
 ghost use Rattle.lxr_tables.specs.Words.{overwritten};
 
 use crate::KeyFrom;
@@ -65,6 +65,26 @@ impl<A: Allocator> ClosedWords<A> {
             Some(pages) => pages.word(&self.memory.words, at),
             None => *self.memory.words.get(at),
         }
+    }
+
+    /// The word at an index, in a page that has a word that isn't 0. Such a page is written, so no note of it is asked.
+    #[inline(always)]
+    pub fn get_used(&self, at: usize) -> u64
+        requires within { at < length self.now }
+        requires used { IsInUsedPage self.now at }
+        ensures { result ≡ slice_index self.now at }
+    {
+        *self.memory.words.get(at)
+    }
+
+    /// Writes the word at an index, in a page that has a word that isn't 0, with no note asked; all others stay.
+    #[inline(always)]
+    pub fn set_used(&mut self, at: usize, value: u64)
+        requires within { at < length self.old }
+        requires used { IsInUsedPage self.old at }
+        ensures { self.new ≡ slice_set self.old at value }
+    {
+        self.memory.words.put(at, value);
     }
 
     /// Writes the word at an index; all others stay.

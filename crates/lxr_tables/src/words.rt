@@ -5,6 +5,7 @@
 //! its end, without a copy. That memory is written where it is touched, and whole once a table was opened over it.
 ghost use Rattle.std.specs.Prelude.{◌≡◌, ℕ, ◌+◌, ◌<◌, ◌≤◌, List, [], length, slice_index, slice_set, replicate, IfOk};
 ghost use Rattle.atomic_table.specs.Table.{opening, Final, Seen};
+ghost use Rattle.lxr_tables.specs.Pages.{IsInUsedPage};
 ghost use Rattle.lxr_tables.specs.Words.{overwritten};
 
 use crate::{ClosedWords, KeyFrom};
@@ -64,6 +65,32 @@ impl PlainWords {
         Ok(PlainWords {
             closed: Some(closed),
         })
+    }
+
+    /// The word at an index, in a page that has a word that isn't 0: such a page is written, and no note of it is asked.
+    #[inline(always)]
+    pub fn get_used(&self, at: usize) -> u64
+        requires within { at < length self.now }
+        requires used { IsInUsedPage self.now at }
+        ensures { result ≡ slice_index self.now at }
+    {
+        match &self.closed {
+            Some(closed) => closed.get_used(at),
+            None => unreachable!(),
+        }
+    }
+
+    /// Writes the word at an index, in a page that has a word that isn't 0, with no note asked; all others stay.
+    #[inline(always)]
+    pub fn set_used(&mut self, at: usize, value: u64)
+        requires within { at < length self.old }
+        requires used { IsInUsedPage self.old at }
+        ensures { self.new ≡ slice_set self.old at value }
+    {
+        match &mut self.closed {
+            Some(closed) => closed.set_used(at, value),
+            None => unreachable!(),
+        }
     }
 
     /// Writes words in a row from an index on; all others stay.

@@ -5,7 +5,9 @@ ghost use Rattle.lxr_shared_heap.specs.Heaps.{IsPassOf};
 ghost use Rattle.lxr_stations.specs.Stations.{Stationed};
 
 use lxr_graph::{Op, Reply};
-use lxr_shared_heap::{Answer, Arrival, Heap, NotOut, Paused, Resumed, Settings, Station};
+use lxr_shared_heap::{
+    Answer, Arrival, Heap, NotOut, Paused, RUNS_LISTED, Resumed, Settings, Station,
+};
 use std::alloc::{AllocError, Global};
 use std::test::Fail;
 use std::thread;
@@ -22,6 +24,7 @@ const SETTINGS: Settings = Settings {
     every: 100,
     trace: 2,
     within: 2,
+    runs: RUNS_LISTED,
     names: true,
 };
 

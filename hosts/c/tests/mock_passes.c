@@ -35,6 +35,9 @@ enum { MUTATORS = 255, HELPERS = 8, PASSES = MUTATORS + 2 * HELPERS, WORLD_REFS 
 #endif
 enum { FIRST = 16, OF_OTHERS = 16 };
 
+/* Runs that are listed where nothing is said, and the fewest. */
+enum { RUNS = 65536, LEAST_RUNS = 64 };
+
 /* An object. Its references stand after it, as addresses, and then its data words. */
 struct object {
     struct object *older;
@@ -361,14 +364,16 @@ lxr_code lxr_station_help(lxr_station *station, uint32_t units, uint32_t *more) 
 
 static bool is_within(uint32_t number, uint32_t least, uint32_t most) { return number >= least && number <= most; }
 
-/* Reads settings of this version, or of 0.2, which evacuated an eighth of the blocks; whether their size is one of these. */
+/* Reads settings of this version, of those that end before the runs, or of 0.2, which evacuated an eighth of the blocks; whether their size is one of
+ * these. */
 static bool read_settings(lxr_passes_settings *settings, const lxr_passes_settings *from) {
-    const size_t first = offsetof(lxr_passes_settings, evacuate);
-    if (from->size != sizeof *settings && from->size != first) return false;
-    settings->registers = 0;
+    const size_t first = offsetof(lxr_passes_settings, evacuate), second = offsetof(lxr_passes_settings, runs);
+    if (from->size != sizeof *settings && from->size != first && from->size != second) return false;
+    settings->registers = settings->runs = 0;
     memcpy(settings, from, (size_t)from->size);
     if (from->size == first) settings->evacuate = settings->blocks / 8;
     if (settings->registers == 0) settings->registers = LXR_REGISTERS;
+    if (settings->runs == 0) settings->runs = RUNS;
     return true;
 }
 
@@ -376,7 +381,8 @@ static bool are_settings(const lxr_passes_settings *settings) {
     return is_within(settings->blocks, 1, 65536) && is_within(settings->mutators, 1, MUTATORS) &&
            is_within(settings->helpers, 1, HELPERS) && is_within(settings->log, 1, 65536) && is_within(settings->remember, 1, 1048576) &&
            is_within(settings->registers, LXR_REGISTERS, LXR_MOST_REGISTERS) && is_within(settings->evacuate, 0, settings->blocks / 8) &&
-           is_within(settings->every, 1, 1048576) && is_within(settings->trace, 1, 1000000) && is_within(settings->within, 1, 1000000);
+           is_within(settings->every, 1, 1048576) && is_within(settings->trace, 1, 1000000) && is_within(settings->within, 1, 1000000) &&
+           settings->runs >= LEAST_RUNS;
 }
 
 lxr_code lxr_passes_open(lxr_passes *handle, const lxr_passes_settings *asked) {

@@ -19,6 +19,9 @@
 /* The bytes of settings of version 0.2. */
 #define FIRST 40
 
+/* Of those that end before the runs. */
+#define SECOND 48
+
 /* The largest heap that is opened here: one of the archive's writes all its words as it is opened. */
 #ifdef MOCK_PASSES
 enum { LARGEST = 65536 };
@@ -49,7 +52,7 @@ static void is_untouched(int line) {
 /* A refused call. */
 #define REFUSED(call, code) (check(call, code, #call, __LINE__), is_untouched(__LINE__))
 
-static const lxr_passes_settings good = { sizeof(lxr_passes_settings), 8, 2, 1, 64, 1024, 100, 4, 2, 1, 0 };
+static const lxr_passes_settings good = { sizeof(lxr_passes_settings), 8, 2, 1, 64, 1024, 100, 4, 2, 1, 0, 0, 0 };
 
 /* Each operation, with numbers that would do. */
 static void refuse_operations(lxr_station *station, lxr_code code) {
@@ -93,7 +96,8 @@ static void try_empty(void) {
 
 /* Settings of another size than there is are refused, whatever else they have. */
 static void try_sizes(void) {
-    const uint64_t wrong[] = { 0, 8, FIRST - 8, FIRST - 1, FIRST + 1, sizeof good - 1, sizeof good + 1, sizeof good + 8, UINT64_MAX };
+    const uint64_t wrong[] = { 0,          8,          FIRST - 8,       FIRST - 1,       FIRST + 1,       SECOND - 1,
+                               SECOND + 1, SECOND + 4, sizeof good - 1, sizeof good + 1, sizeof good + 8, UINT64_MAX };
     for (size_t at = 0; at < sizeof wrong / sizeof wrong[0]; at++) {
         lxr_passes heap = { 0, 0 };
         lxr_passes_settings settings = good;
@@ -103,15 +107,15 @@ static void try_sizes(void) {
     }
 }
 
-/* Settings of version 0.2 are taken, and nothing is read that stands after them: there is no page. */
-static void try_first(void) {
+/* Settings that end after so many bytes are taken, and nothing is read that stands after them: there is no page. */
+static void try_shorter(size_t bytes) {
     const size_t page = (size_t)sysconf(_SC_PAGESIZE);
     void *pages = NULL;
     lxr_passes heap = { 0, 0 };
     IS((uint64_t)posix_memalign(&pages, page, 2 * page), 0);
-    lxr_passes_settings *settings = (void *)((char *)pages + page - FIRST);
-    memcpy(settings, &good, FIRST);
-    settings->size = FIRST;
+    lxr_passes_settings *settings = (void *)((char *)pages + page - bytes);
+    memcpy(settings, &good, bytes);
+    settings->size = bytes;
     IS((uint64_t)mprotect((char *)pages + page, page, PROT_NONE), 0);
     IS(lxr_passes_open(&heap, settings), LXR_OK);
     IS(lxr_passes_close(&heap), LXR_OK);
@@ -156,6 +160,19 @@ static void try_registers(void) {
         lxr_passes_settings settings = good;
         settings.registers = tried[at];
         try_open(&settings, tried[at] == 0 || (tried[at] >= 16 && tried[at] <= 256));
+    }
+}
+
+/* At least 64 runs, or 0 for 65,536, in small heaps and in large ones. */
+static void try_runs(void) {
+    const uint32_t tried[] = { 0, 1, 2, 62, 63, 64, 65, 1000, 65535, 65536, 65537, 1u << 31, LAST };
+    for (size_t at = 0; at < sizeof tried / sizeof tried[0]; at++) {
+        lxr_passes_settings settings = good;
+        settings.runs = tried[at];
+        settings.unused = LAST;
+        try_open(&settings, tried[at] == 0 || tried[at] >= 64);
+        settings.blocks = 1025;
+        try_open(&settings, tried[at] == 0 || tried[at] >= 64);
     }
 }
 
@@ -343,9 +360,11 @@ int main(void) {
     lxr_passes heap = { 0, 0 };
     try_empty();
     try_sizes();
-    try_first();
+    try_shorter(FIRST);
+    try_shorter(SECOND);
     try_settings();
     try_registers();
+    try_runs();
     try_blocks();
     try_all_registers(16);
     try_all_registers(17);

@@ -15,7 +15,7 @@
 
 enum { LINE = 512, WORDS = 32, THREAD = 0, OTHER_THREAD = 1, HELPER = 2, NO_PASS = 4 };
 
-static const lxr_passes_settings settings = { sizeof settings, 8, 2, 1, 64, 1024, 100, 4, 2, 1, 0 };
+static const lxr_passes_settings settings = { sizeof settings, 8, 2, 1, 64, 1024, 100, 4, 2, 1, 0, 0, 0 };
 
 /* ---- Memory ---- */
 

@@ -37,7 +37,7 @@ static void check(uint64_t found, uint64_t wanted, const char *what, int line) {
 /* Among many mutators each is visited seldom, so that each visit wants a pause. */
 static void open_heap(uint32_t blocks, uint32_t mutators) {
     const uint32_t every = mutators > FEW ? OPERATIONS : 100;
-    const lxr_passes_settings settings = { sizeof settings, blocks, mutators, 1, 64, 64, every, 2, 2, blocks / 8, 0 };
+    const lxr_passes_settings settings = { sizeof settings, blocks, mutators, 1, 64, 64, every, 2, 2, blocks / 8, 0, 0, 0 };
     heap = (lxr_passes){ 0, 0 };
     IS(lxr_passes_open(&heap, &settings), LXR_OK);
     IS(lxr_passes_resume(&heap), LXR_OK);

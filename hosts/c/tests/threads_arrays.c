@@ -771,7 +771,7 @@ static lxr_shared_heap_settings draw_settings(uint64_t *dice) {
     settings.log = draw(dice) % 2 ? 64 : 1024;
     settings.pace = draw(dice) % 2 ? LXR_PACE_ROOM : 20000 + draw(dice) % 20000;
     settings.trace = 1 + (uint32_t)draw(dice) % 8;
-    settings.within = 1 + (uint32_t)draw(dice) % 4;
+    settings.within = (uint32_t)draw(dice) % 5;
     settings.registers = registers[draw(dice) % 4];
     return settings;
 }

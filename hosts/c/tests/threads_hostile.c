@@ -21,6 +21,9 @@
 /* Of those that end before the room. */
 #define SECOND 72
 
+/* Of those that end before the runs. */
+#define THIRD 80
+
 /* The largest heap that is opened here: one of the archive's writes all its words as it is opened. */
 #ifdef MOCK_PASSES
 enum { LARGEST = 65536 };
@@ -101,7 +104,8 @@ static void refuse_all(lxr_mutator *mutator, lxr_code code) {
 /* Settings of another size than there is are refused, whatever else they have. */
 static void try_sizes(void) {
     const uint64_t all = sizeof(lxr_shared_heap_settings);
-    const uint64_t wrong[] = { 0, 8, FIRST - 8, FIRST - 1, FIRST + 1, SECOND - 1, SECOND + 1, all - 1, all + 1, all + 8, UINT64_MAX };
+    const uint64_t wrong[] = { 0,         8,         FIRST - 8, FIRST - 1, FIRST + 1, SECOND - 1, SECOND + 1,
+                               THIRD - 1, THIRD + 1, THIRD + 4, all - 1,   all + 1,   all + 8,    UINT64_MAX };
     for (size_t at = 0; at < sizeof wrong / sizeof wrong[0]; at++) {
         lxr_shared_heap *heap = NULL;
         lxr_shared_heap_settings settings = LXR_SHARED_HEAP_SETTINGS(8, 2);
@@ -138,6 +142,23 @@ static void try_second(void) {
     IS(lxr_shared_heap_open(&heap, settings), LXR_OK);
     IS(lxr_shared_heap_count(heap, LXR_COUNT_ROOM, &wide), LXR_OK);
     IS(wide, 100);
+    wide = UNTOUCHED;
+    IS(lxr_shared_heap_close(&heap), LXR_OK);
+    free(settings);
+}
+
+/* And those that end before the runs. */
+static void try_third(void) {
+    lxr_shared_heap_settings wanted = LXR_SHARED_HEAP_SETTINGS(100, 2);
+    lxr_shared_heap *heap = NULL;
+    void *settings = malloc(THIRD);
+    IS(settings != NULL, 1);
+    wanted.size = THIRD;
+    wanted.room = 7;
+    memcpy(settings, &wanted, THIRD);
+    IS(lxr_shared_heap_open(&heap, settings), LXR_OK);
+    IS(lxr_shared_heap_count(heap, LXR_COUNT_ROOM, &wide), LXR_OK);
+    IS(wide, 7);
     wide = UNTOUCHED;
     IS(lxr_shared_heap_close(&heap), LXR_OK);
     free(settings);
@@ -181,7 +202,7 @@ static void try_settings(void) {
         { offsetof(lxr_shared_heap_settings, mutators), 1, 255 },  { offsetof(lxr_shared_heap_settings, helpers), 0, 8 },
         { offsetof(lxr_shared_heap_settings, log), 1, 65536 },     { offsetof(lxr_shared_heap_settings, remember), 1, 1048576 },
         { offsetof(lxr_shared_heap_settings, evacuate), 0, 1 },    { offsetof(lxr_shared_heap_settings, every), 1, 1000000 },
-        { offsetof(lxr_shared_heap_settings, trace), 1, 1000000 }, { offsetof(lxr_shared_heap_settings, within), 1, 1000000 },
+        { offsetof(lxr_shared_heap_settings, trace), 1, 1000000 }, { offsetof(lxr_shared_heap_settings, within), 0, 1000000 },
         { offsetof(lxr_shared_heap_settings, room), 0, 8 },        { offsetof(lxr_shared_heap_settings, grow), 0, 10000 },
     };
     for (size_t at = 0; at < sizeof ranges / sizeof ranges[0]; at++) {
@@ -202,6 +223,20 @@ static void try_registers(void) {
         IS(settings.registers, 16);
         settings.registers = tried[at];
         try_open(&settings, tried[at] == 0 || (tried[at] >= 16 && tried[at] <= 256));
+    }
+}
+
+/* At least 64 runs, or 0 for 65,536, in small heaps and in large ones. */
+static void try_runs(void) {
+    const uint32_t tried[] = { 0, 1, 2, 63, 64, 65, 1000, 65536, 65537, 1u << 31, LAST };
+    for (size_t at = 0; at < sizeof tried / sizeof tried[0]; at++) {
+        for (uint32_t blocks = 1024; blocks <= 1025; blocks++) {
+            lxr_shared_heap_settings settings = LXR_SHARED_HEAP_SETTINGS(blocks, 2);
+            IS(settings.runs, 0);
+            settings.runs = tried[at];
+            settings.unused = LAST;
+            try_open(&settings, tried[at] == 0 || tried[at] >= LXR_LEAST_RUNS);
+        }
     }
 }
 
@@ -617,9 +652,11 @@ int main(int words, char **unused) {
     try_sizes();
     try_first();
     try_second();
+    try_third();
     try_rooms();
     try_settings();
     try_registers();
+    try_runs();
     try_blocks();
     try_in_use(16);
     try_in_use(64);

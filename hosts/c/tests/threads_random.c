@@ -623,10 +623,11 @@ static lxr_shared_heap_settings draw_settings(uint64_t *dice) {
     settings.log = draw(dice) % 2 ? 8 : 1024;
     settings.pace = draw(dice) % 3 == 0 ? LXR_PACE_ROOM : draw(dice) % 2 ? LXR_PACE_NEVER : 1 + draw(dice) % 20000;
     settings.trace = 1 + (uint32_t)draw(dice) % 8;
-    settings.within = 1 + (uint32_t)draw(dice) % 4;
+    settings.within = (uint32_t)draw(dice) % 5;
     settings.registers = draw_registers_of(dice);
     settings.room = (uint32_t)draw(dice) % (blocks + 1);
     settings.grow = draw(dice) % 3 ? (uint32_t)draw(dice) % 300 : 0;
+    settings.runs = draw(dice) % 3 ? LXR_LEAST_RUNS + (uint32_t)draw(dice) % 1000 : 0;
     now.blocks = blocks;
     return settings;
 }

@@ -254,6 +254,23 @@ void evacuates() {
     }
 }
 
+/// A large heap lists as many runs as the settings say, at least 64.
+void runs() {
+    lxr_shared_heap_settings settings = LXR_SHARED_HEAP_SETTINGS(1100, 1);
+    CHECK(settings.runs == 0);
+    for (const std::uint32_t most : {0U, 1U, 63U, 64U, 1000U, UINT32_MAX}) {
+        settings.runs = most;
+        if (most > 0 && most < LXR_LEAST_RUNS) {
+            CHECK(throws(lxr::errc::size, [&] { lxr::shared_heap none(settings); }));
+            continue;
+        }
+        const lxr::shared_heap heap(settings);
+        lxr::mutator self(heap);
+        self.collect();
+        CHECK(heap.free_blocks() >= 1098);
+    }
+}
+
 /// As many registers as the settings say: all but two of them are for locals, and those that are in use no more are nil.
 void registers() {
     lxr_shared_heap_settings settings = LXR_SHARED_HEAP_SETTINGS(8, 2);
@@ -348,6 +365,7 @@ int main() {
         paces();
         rooms();
         evacuates();
+        runs();
         registers();
         full_heaps();
     } catch (const std::exception& wrong) {

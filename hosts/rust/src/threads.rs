@@ -73,7 +73,7 @@ pub struct Settings {
     pub every: u32,
     /// Each pause whose number is a multiple of it begins a trace, where none runs, 1 to 1,000,000.
     pub trace: u32,
-    /// A trace ends at the latest so many pauses after it began, 1 to 1,000,000.
+    /// A trace ends at the latest so many pauses after it began, up to 1,000,000; by 0 once all is marked.
     pub within: u32,
     /// When plain pauses come by themselves: a mutator wants one once it has made its share of these bytes since the last, which is all of
     /// them divided by the mutators that are in the heap.
@@ -86,6 +86,9 @@ pub struct Settings {
     pub room: u32,
     /// Hundredths more than what is in use to which each collecting pause and end of a trace sets the room, up to 10,000; 0 for never.
     pub grow: u32,
+    /// Pieces of free lines that are listed after a pause at most, in turn, in a heap of more than 1,024 blocks: 64 or more; 0 for 65,536. Fewer
+    /// make the pauses of a large heap in pieces shorter, and a mutator that comes to the end of the list waits for a pause.
+    pub runs: u32,
 }
 
 impl Settings {
@@ -100,12 +103,13 @@ impl Settings {
             remember: 65_536,
             every: 65_536,
             trace: 16,
-            within: 4,
+            within: 0,
             pace: Pace::Room,
             evacuate,
             registers: raw::LXR_REGISTERS,
             room: 0,
             grow: raw::LXR_GROW,
+            runs: 0,
         }
     }
 
@@ -139,7 +143,7 @@ impl Settings {
         self
     }
 
-    /// So many pauses within which a trace ends.
+    /// So many pauses within which a trace ends; by 0 it has as many as it takes.
     pub const fn within(mut self, within: u32) -> Settings {
         self.within = within;
         self
@@ -175,8 +179,15 @@ impl Settings {
         self
     }
 
+    /// So many pieces of free lines that are listed at most.
+    pub const fn runs(mut self, runs: u32) -> Settings {
+        self.runs = runs;
+        self
+    }
+
     fn raw(&self, watch: Option<&Watch>) -> raw::SharedSettings {
-        let &Settings { blocks, mutators, helpers, log, remember, every, trace, within, pace, evacuate, registers, room, grow } = self;
+        let &Settings { blocks, mutators, helpers, log, remember, every, trace, within, pace, evacuate, registers, room, grow, runs } =
+            self;
         let pace = pace.bytes();
         let size = size_of::<raw::SharedSettings>() as u64;
         let with = watch.map_or(ptr::null_mut(), |watch| (watch as *const Watch).cast_mut().cast());
@@ -198,6 +209,8 @@ impl Settings {
             registers,
             room,
             grow,
+            runs,
+            unused: 0,
         }
     }
 }

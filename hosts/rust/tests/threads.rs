@@ -170,6 +170,19 @@ fn rooms_are_set_and_grow() -> Result<(), Error> {
 }
 
 #[test]
+fn a_large_heap_lists_as_many_runs_as_the_settings_say() -> Result<(), Error> {
+    assert_eq!(Settings::new(1100, 1).runs, 0);
+    for (runs, fits) in [(1, false), (63, false), (64, true), (1000, true), (u32::MAX, true)] {
+        let heap = SharedHeap::open(&Settings::new(1100, 1).runs(runs));
+        assert_eq!(heap.as_ref().err(), if fits { None } else { Some(&Error::Size) });
+        let Ok(heap) = heap else { continue };
+        heap.enter()?.collect()?;
+        assert!(heap.count(Count::FreeBlocks) >= 1098);
+    }
+    Ok(())
+}
+
+#[test]
 fn mutators_have_as_many_registers_as_the_settings_say() -> Result<(), Error> {
     assert_eq!(Settings::new(8, 2).registers, 16);
     for many in [16, 17, 64, 256] {

@@ -170,6 +170,7 @@ pub const LXR_MOST_LOG: u32 = 65536;
 pub const LXR_MOST_REMEMBER: u32 = 1048576;
 pub const LXR_MOST_EVERY: u32 = 1000000;
 pub const LXR_MOST_TRACE: u32 = 1000000;
+pub const LXR_LEAST_RUNS: u32 = 64;
 
 pub const LXR_OP_SWAP: u32 = 9;
 pub const LXR_OP_ADD: u32 = 10;
@@ -211,6 +212,8 @@ pub struct SharedSettings {
     pub registers: u32,
     pub room: u32,
     pub grow: u32,
+    pub runs: u32,
+    pub unused: u32,
 }
 
 /// What `lxr_pause_times` is.
@@ -306,6 +309,8 @@ pub struct PassesSettings {
     pub within: u32,
     pub evacuate: u32,
     pub registers: u32,
+    pub runs: u32,
+    pub unused: u32,
 }
 
 extern "C" {

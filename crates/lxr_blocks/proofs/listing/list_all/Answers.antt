@@ -21,6 +21,13 @@ loop-block-init c =
       within = omega arith;
     }
 
+pub list_block-runs-requires-clause-first : goal.list_block-runs-requires-clause-first
+list_block-runs-requires-clause-first c =
+    let before = c.loop-block.invariant in let next = c.in-Some.ensures.next in
+    let same : c.loop-block.space.limits.blocks ≡ c.args.space.now.limits.blocks = ap (λ z. z.limits.blocks) before.turns.rest in
+    let few = before.room in let reached = next.reached in let end = next.within in
+    omega (arith, few, reached, end, same)
+
 pub loop-block-preserved : goal.loop-block-preserved
 loop-block-preserved c =
     let s = c.args.space.now in let t = tables_of s in
@@ -51,7 +58,7 @@ loop-block-preserved c =
       runs = listed.count ∙ (λ j. before.runs j + length (block_runs (tables_of c.loop-block.space) block))
           ∙ sym (length-append (joined (block_runs t) at) (block_runs (tables_of c.loop-block.space) block)) ∙ ap length runs_more;
       frees = omega (arith, many, len, all, frees, told);
-      room = omega (arith, room);
+      room = (let few = before.room in omega (arith, room, few, reached));
       free_room = omega (arith, told, free_room, reached);
       within = omega (arith, end, same);
     }

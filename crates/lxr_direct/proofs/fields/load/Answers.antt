@@ -46,3 +46,8 @@ returns c = λ g serial may.
     (subst (λ p. IsDone before (with_places before (slice_set before.registers.items (register_index c.args.thread c.args.dest) p)) g c.args.thread (op.Load c.args.dest c.args.base c.args.index) (reply.Loaded c.name_at-name.result))
     (sym c.reference_at-found.ensures)
     (load_done before g c.args.thread serial may c.args.base c.in-Some.object at.0 at.1 c.args.dest c.args.index c.name_at-name.result (c.ranges.dest.fits, c.ranges.base.fits) c.if-object-index.false name))
+
+pub reference_at-found-requires-clause-used : goal.reference_at-found-requires-clause-used
+reference_at-found-requires-clause-used c =
+    let low = c.if-object-index.false in
+    (c.base_of.ensures.inside c.in-Some.object c.in-Some.is).used _ (omega arith) (omega (arith, low))

@@ -15,8 +15,8 @@ returns-then-object-index c = λ g serial may.
 pub data_word-requires : goal.data_word-requires
 data_word-requires c = (c.base_of.ensures.inside c.in-Some.object c.in-Some.is).place
 
-pub put_heap-requires-clause-at : goal.put_heap-requires-clause-at
-put_heap-requires-clause-at c =
+pub put_used-requires-clause-at : goal.put_used-requires-clause-at
+put_used-requires-clause-at c =
     let inside = (c.base_of.ensures.inside c.in-Some.object c.in-Some.is).words in
     let low = c.if-object-index.false in
     let word = c.data_word.ensures in
@@ -25,5 +25,11 @@ put_heap-requires-clause-at c =
 pub returns : goal.returns
 returns c = λ g serial may.
     let at = subst (IsBase g c.args.thread c.args.base) c.in-Some.is (c.base_of.ensures.holds g serial may) in
-    put_done c.args.space.now g c.args.thread serial may c.args.base c.in-Some.object at.0 at.1 c.args.index c.args.value c.data_word.result c.put_heap.new.self c.ranges.base.fits c.if-object-index.false
-    c.data_word.ensures c.put_heap.ensures
+    put_done c.args.space.now g c.args.thread serial may c.args.base c.in-Some.object at.0 at.1 c.args.index c.args.value c.data_word.result c.put_used.new.self c.ranges.base.fits c.if-object-index.false
+    c.data_word.ensures c.put_used.ensures
+
+pub put_used-requires-clause-used : goal.put_used-requires-clause-used
+put_used-requires-clause-used c =
+    let low = c.if-object-index.false in
+    let word = c.data_word.ensures in
+    (c.base_of.ensures.inside c.in-Some.object c.in-Some.is).used c.data_word.result (omega (arith, word)) (omega (arith, low, word))

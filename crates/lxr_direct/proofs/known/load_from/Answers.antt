@@ -34,3 +34,9 @@ returns-clause-done c = λ g serial may.
 pub returns-clause-known : goal.returns-clause-known
 returns-clause-known c = λ apart.
     subst (λ s. IsKnown s c.args.thread c.args.object) (sym c.hold.ensures) (placed_known c.args.space.now c.args.thread c.args.dest c.reference_at-found.result c.args.object apart c.requires.known)
+
+pub reference_at-found-requires-clause-used : goal.reference_at-found-requires-clause-used
+reference_at-found-requires-clause-used c =
+    let (g, serial, may) = c.requires.state in
+    let low = c.requires.index in
+    (known_inside c.args.space.now g c.args.thread serial may c.args.object c.requires.known).used _ (omega arith) (omega (arith, low))

@@ -1,4 +1,4 @@
-use Rattle.std.proofs.Common.{◌≡◌, ◌∙◌, ◌+◌, ◌*◌, ◌<◌, ◌≤◌, subst, sym, arith}
+use Rattle.std.proofs.Common.{subst, sym, arith}
 use Rattle.std.proofs.lemmas.Bool.{iff_false}
 use Rattle.lxr_graph.specs.declared.Op.TheVariants as op
 use Rattle.lxr_graph.specs.declared.Reply.TheVariants as reply
@@ -19,8 +19,8 @@ returns-then-not-has_field-clause-misses c = λ g serial may.
 pub data_word-requires : goal.data_word-requires
 data_word-requires c = (c.base_of.ensures.inside c.in-Some.object c.in-Some.is).place
 
-pub heap_word-requires-clause-at : goal.heap_word-requires-clause-at
-heap_word-requires-clause-at c =
+pub used_word-requires-clause-at : goal.used_word-requires-clause-at
+used_word-requires-clause-at c =
     let inside = (c.base_of.ensures.inside c.in-Some.object c.in-Some.is).words in
     let low = c.has_field.ensures.there.0 c.if-not-has_field.false in
     let word = c.data_word.ensures in
@@ -31,5 +31,11 @@ returns-clause-got c = λ g serial may.
     let at = subst (IsBase g c.args.thread c.args.base) c.in-Some.is (c.base_of.ensures.holds g serial may) in
     let low = c.has_field.ensures.there.0 c.if-not-has_field.false in
     let space = c.args.space.now in
-    subst (λ z. IsDone space space g c.args.thread (op.Get c.args.base c.args.index) (reply.Got z)) (sym c.heap_word.ensures)
+    subst (λ z. IsDone space space g c.args.thread (op.Get c.args.base c.args.index) (reply.Got z)) (sym c.used_word.ensures)
     (get_done space g c.args.thread serial may c.args.base c.in-Some.object at.0 at.1 c.args.index c.data_word.result low c.data_word.ensures)
+
+pub used_word-requires-clause-used : goal.used_word-requires-clause-used
+used_word-requires-clause-used c =
+    let low = c.has_field.ensures.there.0 c.if-not-has_field.false in
+    let word = c.data_word.ensures in
+    (c.base_of.ensures.inside c.in-Some.object c.in-Some.is).used c.data_word.result (omega (arith, word)) (omega (arith, low, word))

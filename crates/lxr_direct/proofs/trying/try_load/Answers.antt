@@ -1,4 +1,4 @@
-use Rattle.std.proofs.Common.{◌∙◌, ◌+◌, ◌*◌, ◌<◌, ◌≤◌, ap, subst, sym, arith}
+use Rattle.std.proofs.Common.{◌∙◌, ap, subst, sym, arith}
 use Rattle.std.specs.Prelude.{slice_set}
 use Rattle.std.proofs.lemmas.Bool.{iff_false}
 use Rattle.lxr_graph.specs.declared.Op.TheVariants as op
@@ -42,3 +42,8 @@ returns-clause-loaded c = λ e. (
       (sym c.reference_at-found.ensures)
       (load_done before g c.args.thread serial may c.args.base c.in-Some.object at.0 at.1 c.args.dest c.args.index v (c.ranges.dest.fits, c.ranges.base.fits) low is)),
 )
+
+pub reference_at-found-requires-clause-used : goal.reference_at-found-requires-clause-used
+reference_at-found-requires-clause-used c =
+    let low = c.has_field.ensures.there.0 c.if-not-has_field.false in
+    (c.base_of.ensures.inside c.in-Some.object c.in-Some.is).used _ (omega arith) (omega (arith, low))

@@ -1,4 +1,4 @@
-use Rattle.std.proofs.Common.{◌+◌, ◌*◌, ◌<◌, ◌≤◌, subst, arith}
+use Rattle.std.proofs.Common.{subst, arith}
 use Rattle.std.proofs.lemmas.Bool.{iff_false}
 use Rattle.lxr_graph.specs.declared.Reply.TheVariants as reply
 use Rattle.lxr_direct.specs.Operating.{IsBase}
@@ -18,8 +18,8 @@ returns-then-not-has_field-clause-misses c = λ e g serial may.
 pub data_word-requires : goal.data_word-requires
 data_word-requires c = (c.base_of.ensures.inside c.in-Some.object c.in-Some.is).place
 
-pub put_heap-requires-clause-at : goal.put_heap-requires-clause-at
-put_heap-requires-clause-at c =
+pub put_used-requires-clause-at : goal.put_used-requires-clause-at
+put_used-requires-clause-at c =
     let inside = (c.base_of.ensures.inside c.in-Some.object c.in-Some.is).words in
     let low = c.has_field.ensures.there.0 c.if-not-has_field.false in
     let word = c.data_word.ensures in
@@ -29,4 +29,10 @@ pub returns-clause-put : goal.returns-clause-put
 returns-clause-put c = λ e g serial may.
     let at = subst (IsBase g c.args.thread c.args.base) c.in-Some.is (c.base_of.ensures.holds g serial may) in
     let low = c.has_field.ensures.there.0 c.if-not-has_field.false in
-    put_done c.args.space.now g c.args.thread serial may c.args.base c.in-Some.object at.0 at.1 c.args.index c.args.value c.data_word.result c.put_heap.new.self c.ranges.base.fits low c.data_word.ensures c.put_heap.ensures
+    put_done c.args.space.now g c.args.thread serial may c.args.base c.in-Some.object at.0 at.1 c.args.index c.args.value c.data_word.result c.put_used.new.self c.ranges.base.fits low c.data_word.ensures c.put_used.ensures
+
+pub put_used-requires-clause-used : goal.put_used-requires-clause-used
+put_used-requires-clause-used c =
+    let low = c.has_field.ensures.there.0 c.if-not-has_field.false in
+    let word = c.data_word.ensures in
+    (c.base_of.ensures.inside c.in-Some.object c.in-Some.is).used c.data_word.result (omega (arith, word)) (omega (arith, low, word))

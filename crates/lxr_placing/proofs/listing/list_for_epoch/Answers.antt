@@ -11,5 +11,5 @@ returns-clause-listed c =
     let (g, between) = c.requires in
     record {
       listed = listed_now c.args.space.now c.list_runs.new.space between.safepoint.holds.space between.states c.list_runs.ensures.lists;
-      whole = all_listed_now c.args.space.now c.list_runs.new.space c.list_runs.ensures.lists;
+      whole = all_listed_now c.args.space.now c.list_runs.new.space _ c.list_runs.ensures.lists;
     }

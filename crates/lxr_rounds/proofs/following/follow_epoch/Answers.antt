@@ -9,6 +9,8 @@ use Rattle.lxr_core.specs.declared.actors.AnyActor.{AnyActor}
 use Rattle.lxr_core.specs.Actors.{mutators_in}
 use Rattle.lxr_one_pause.specs.declared.Ask.{Ask}
 use Rattle.lxr_one_pause.specs.Telling.{TellsWanted}
+use Rattle.lxr_placing.specs.Listing.{Lists}
+use Rattle.lxr_placing.proofs.TurnLemmas.{lists_turn}
 use Rattle.lxr_serve.specs.Serving.{KeepsHelpers}
 use Rattle.lxr_sights.specs.Sights.{Sight}
 use Rattle.lxr_rounds_invariant.specs.LoopInvariant.{HasPaused, Task, done_of}
@@ -96,8 +98,8 @@ returns-in_err-answer_waiting-clause-err g c = passed_on _ c.from_residual-in_er
       cut_off = fails_on g.O.Observer.began g.O.Observer.served g.O.Observer.told c.args.observer.now c.pause.new.observer c.args.output.now c.pause.new.output h (Pause report ∷ h) first g.O.Observer.failed c.answer_waiting.new.output c.in_err-answer_waiting.field-0.0 cut.history cut.report cut.cut_off;
     })
 
-pub list_for_epoch-requires : goal.list_for_epoch-requires
-list_for_epoch-requires g c =
+pub list_next-requires : goal.list_next-requires
+list_next-requires g c =
     let (task, paced, earlier, h, m, ran) = c.requires.ran in
     let are = found c.args.actors.now.items _ _ c.have_ended-ended.result c.shall_collect-collects.result c.ask_of-ask.result c.deref.ensures.value c.deref-2.ensures.value c.have_ended-ended.ensures c.shall_collect-collects.ensures c.ask_of-ask.ensures in
     let (report, m', paused) = c.pause.ensures.paused task h m (pause_due task c.args.pace paced c.args.space.now (g.W.Watch.seen c.args.watch.now) earlier c.args.actors.now.items h m ran c.have_ended-ended.result c.shall_collect-collects.result c.ask_of-ask.result are) in
@@ -115,23 +117,23 @@ returns-clause-ok g c = λ task paced earlier h m ran.
     let keeps = subst (λ actors. KeepsHelpers actors c.answer_waiting.new.actors) c.deref_mut.ensures.value c.in_ok-answer_waiting.ensures.helpers in
     let many = answered_many task c.args.pace paced c.args.space.now (g.W.Watch.seen c.args.watch.now) earlier c.args.actors.now.items h m ran c.have_ended-ended.result c.shall_collect-collects.result c.ask_of-ask.result are c.answer_waiting.new.space (g.W.Watch.seen c.answer_waiting.new.watch) c.answer_waiting.new.actors c.pause.new.space.pauses (length (mutators_in c.answer_waiting.new.actors)) collected served k m'' serving keeps in
     let whole = with_items_is c.args.actors.now c.answer_waiting.new.actors (many ∙ ap length (sym c.deref_mut.ensures.value) ∙ c.deref_mut.ensures.len) in
-    subst (λ answered. IsNextDue (λ j k. Tells g.O.Observer.began g.O.Observer.served g.O.Observer.told c.args.observer.now c.args.output.now j c.answer_waiting.new.observer c.answer_waiting.new.output k) task c.args.space.now c.list_for_epoch.new.space (g.W.Watch.seen c.answer_waiting.new.watch) earlier c.args.actors.now.items answered h) (sym whole)
-    (goes_on task c.args.pace paced c.args.space.now (g.W.Watch.seen c.args.watch.now) earlier c.args.actors.now.items h m ran c.have_ended-ended.result c.shall_collect-collects.result c.ask_of-ask.result are c.pause.new.space (g.W.Watch.seen c.pause.new.watch) report m' paused c.pause.ensures.made c.if-ended.false c.pause.ensures.pauses c.answer_waiting.new.space c.list_for_epoch.new.space (g.W.Watch.seen c.answer_waiting.new.watch) c.answer_waiting.new.actors collected served k m'' serving answers keeps
+    subst (λ answered. IsNextDue (λ before after. Lists c.args.to_list.now before after c.list_next.result) (λ j k. Tells g.O.Observer.began g.O.Observer.served g.O.Observer.told c.args.observer.now c.args.output.now j c.answer_waiting.new.observer c.answer_waiting.new.output k) task c.args.space.now c.list_next.new.space (g.W.Watch.seen c.answer_waiting.new.watch) earlier c.args.actors.now.items answered h) (sym whole)
+    (goes_on task c.args.pace paced c.args.space.now (g.W.Watch.seen c.args.watch.now) earlier c.args.actors.now.items h m ran c.have_ended-ended.result c.shall_collect-collects.result c.ask_of-ask.result are c.pause.new.space (g.W.Watch.seen c.pause.new.watch) report m' paused c.pause.ensures.made c.if-ended.false c.pause.ensures.pauses c.answer_waiting.new.space c.list_next.new.space (g.W.Watch.seen c.answer_waiting.new.watch) c.answer_waiting.new.actors collected served k m'' serving answers keeps
     (record {
-      between = c.list_for_epoch.ensures.between m'' serving.between;
-      listed = c.list_for_epoch.ensures.listed.listed;
-      all_listed = c.list_for_epoch.ensures.listed.whole;
-      limits = ap (λ (s : Space). s.limits) c.list_for_epoch.ensures.lists.rest;
-      tally = ap (λ (s : Space). s.tally) c.list_for_epoch.ensures.lists.rest;
-      pauses = ap (λ (s : Space). s.pauses) c.list_for_epoch.ensures.lists.rest;
+      between = c.list_next.ensures.between m'' serving.between;
+      listed = c.list_next.ensures.listed.listed;
+      all_listed = c.list_next.ensures.listed.whole;
+      limits = ap (λ (s : Space). s.limits) (lists_turn c.args.to_list.now c.list_next.result c.answer_waiting.new.space c.list_next.new.space c.list_next.ensures.lists).2.rest;
+      tally = ap (λ (s : Space). s.tally) (lists_turn c.args.to_list.now c.list_next.result c.answer_waiting.new.space c.list_next.new.space c.list_next.ensures.lists).2.rest;
+      pauses = ap (λ (s : Space). s.pauses) (lists_turn c.args.to_list.now c.list_next.result c.answer_waiting.new.space c.list_next.new.space c.list_next.ensures.lists).2.rest;
     })
-    c.list_for_epoch.ensures.lists (λ j k. Tells g.O.Observer.began g.O.Observer.served g.O.Observer.told c.args.observer.now c.args.output.now j c.answer_waiting.new.observer c.answer_waiting.new.output k)
+    (λ before after. Lists c.args.to_list.now before after c.list_next.result) c.list_next.ensures.lists (λ j k. Tells g.O.Observer.began g.O.Observer.served g.O.Observer.told c.args.observer.now c.args.output.now j c.answer_waiting.new.observer c.answer_waiting.new.output k)
     (tells_on g.O.Observer.began g.O.Observer.served g.O.Observer.told c.args.observer.now c.pause.new.observer c.args.output.now c.pause.new.output h (Pause report ∷ h) first c.answer_waiting.new.observer c.answer_waiting.new.output k tells))
 
 pub returns-clause-listed : goal.returns-clause-listed
 returns-clause-listed g c =
-    subst (λ (r : Report). TellsWanted (g.O.Observer.wants c.args.observer.now r.kind) r) (sym (ap (λ (s : Space). s.report) c.list_for_epoch.ensures.lists.rest))
+    subst (λ (r : Report). TellsWanted (g.O.Observer.wants c.args.observer.now r.kind) r) (sym (ap (λ (s : Space). s.report) (lists_turn c.args.to_list.now c.list_next.result c.answer_waiting.new.space c.list_next.new.space c.list_next.ensures.lists).2.rest))
     (subst (λ b. TellsWanted b c.answer_waiting.new.space.report) (c.pause.ensures.wants c.answer_waiting.new.space.report.kind) c.answer_waiting.ensures.listed)
 
 pub returns-clause-room : goal.returns-clause-room
-returns-clause-room g c = subst (g.O.Observer.has_room c.answer_waiting.new.observer) (sym (ap (λ (s : Space). s.pauses) c.list_for_epoch.ensures.lists.rest)) c.in_ok-answer_waiting.ensures.room
+returns-clause-room g c = subst (g.O.Observer.has_room c.answer_waiting.new.observer) (sym (ap (λ (s : Space). s.pauses) (lists_turn c.args.to_list.now c.list_next.result c.answer_waiting.new.space c.list_next.new.space c.list_next.ensures.lists).2.rest)) c.in_ok-answer_waiting.ensures.room

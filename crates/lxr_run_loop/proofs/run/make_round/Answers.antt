@@ -2,6 +2,8 @@ use Rattle.std.proofs.Common.{◌∙◌, ap, refl, subst, sym}
 use Rattle.std.proofs.lemmas.Result.{IfErr-at_err, IfErr-weaker, IfOk-weaker}
 use Rattle.lxr_one_pause.specs.Deciding.{IsPace}
 use Rattle.lxr_words.specs.declared.Options.{Options}
+use Rattle.lxr_placing.specs.Listing.{Lists}
+use Rattle.lxr_placing.specs.declared.listing.ToList.TheVariants.{All}
 use Rattle.lxr_rounds_invariant.specs.LoopInvariant.{pace_of}
 use Rattle.lxr_rounds.specs.Observing.{Tells}
 use Rattle.lxr_rounds.proofs.ResultLemmas.{either_way, ok_both}
@@ -56,6 +58,7 @@ returns-clause-ok g c = IfOk-weaker c.follow_epoch-followed.result _ _
     subst (λ course. HasMadeRound task c.follow_epoch-followed.new.space (g.O.Sink.written c.follow_epoch-followed.new.output) (g.W.Watch.seen c.follow_epoch-followed.new.watch) c.args.actors.now.items c.follow_epoch-followed.new.actors.items course ended)
     (course_is c.take_teller-teller.new.self c.put_teller.new.self c.follow_epoch-followed.new.observer c.make_epoch.new.generator c.take_teller-teller.ensures.generator c.put_teller.ensures)
     (round task c.args.space.now c.make_epoch.new.space (g.O.Sink.written c.args.output.now) (g.W.Watch.seen c.args.watch.now) c.args.actors.now.items c.make_epoch.new.actors.items h m c.args.course.now.generator c.make_epoch.new.generator amid drawn made
+    (λ before after. Lists All before after c.follow_epoch-followed.new.to_list) (λ before after lists. lists.0)
     (λ j k. Tells CountsPlaced NotesServed (TellsReport g.O.Sink.written g.O.Sink.faults) c.take_teller-teller.result c.args.output.now j c.follow_epoch-followed.new.observer c.follow_epoch-followed.new.output k)
     ended c.follow_epoch-followed.new.space (g.O.Sink.written c.follow_epoch-followed.new.output) (g.W.Watch.seen c.follow_epoch-followed.new.watch) c.follow_epoch-followed.new.actors.items c.take_teller-teller.result c.follow_epoch-followed.new.observer
     (followed (rounds_of task) paced c.args.actors.now.items made.history made.abstract_state made.ran) stands
@@ -88,7 +91,7 @@ returns-clause-faults g c =
     either_way _ c.follow_epoch-followed.result
     (IfOk-weaker c.follow_epoch-followed.result _ _
     (λ ended followed.
-    let (k, tells) = told_behind (λ j k. Tells CountsPlaced NotesServed (TellsReport g.O.Sink.written g.O.Sink.faults) c.take_teller-teller.result c.args.output.now j c.follow_epoch-followed.new.observer c.follow_epoch-followed.new.output k) ended (rounds_of task) c.make_epoch.new.space c.follow_epoch-followed.new.space (g.W.Watch.seen c.follow_epoch-followed.new.watch) c.args.actors.now.items c.make_epoch.new.actors.items c.follow_epoch-followed.new.actors.items made.history
+    let (k, tells) = told_behind (λ before after. Lists All before after c.follow_epoch-followed.new.to_list) (λ j k. Tells CountsPlaced NotesServed (TellsReport g.O.Sink.written g.O.Sink.faults) c.take_teller-teller.result c.args.output.now j c.follow_epoch-followed.new.observer c.follow_epoch-followed.new.output k) ended (rounds_of task) c.make_epoch.new.space c.follow_epoch-followed.new.space (g.W.Watch.seen c.follow_epoch-followed.new.watch) c.args.actors.now.items c.make_epoch.new.actors.items c.follow_epoch-followed.new.actors.items made.history
     (followed (rounds_of task) paced c.args.actors.now.items made.history made.abstract_state made.ran) in
     faults_on g.O.Sink.written g.O.Sink.faults c.take_teller-teller.result c.args.output.now made.history c.follow_epoch-followed.new.observer c.follow_epoch-followed.new.output k tells)
     c.follow_epoch-followed.ensures.ok)

@@ -8,10 +8,10 @@ use Rattle.lxr_core.specs.Actors.{mutators_in}
 use Rattle.lxr_model.proofs.CollectLemmas.{whole_so_far}
 use Rattle.lxr_rounds_invariant.specs.LoopInvariant.{IsBetweenEpochs, terms_of}
 use Rattle.lxr_shared_heap.specs.declared.heap.Stage.TheVariants as stage
-use Rattle.lxr_shared_heap.specs.Heaps.{ComesToRest}
+use Rattle.lxr_shared_heap.specs.Heaps.{ComesToRest, HasListed}
 use Rattle.lxr_stations.specs.Living.{AreLive}
 use Rattle.lxr_shared_heap.specs.Renewing.{RenewsWhere, StandsIdle, is_renewal_due, waits}
-use Rattle.lxr_shared_heap.specs.Resting.{HasRested}
+use Rattle.lxr_shared_heap.specs.Resting.{HasRested, ListsBehind}
 use Rattle.lxr_shared_heap.specs.Settings.{run_of}
 use Rattle.lxr_shared_heap.proofs.DueLemmas.{due_told, due_tested}
 use Rattle.lxr_shared_heap.proofs.HeapLemmas.{idle_stands, newest_behind, renewed_many, renewed_space, stands_renewed, tells_none}
@@ -49,11 +49,11 @@ of-requires-else-rest g c =
     let space = c.rest.new.space in
     let actors = c.rest.new.actors.items in
     let stands = idle_stands c.args.settings script calls c.args.actors.items space actors rested ran.actors_rest.mutators c.requires.live c.some_waits-idle.result (c.some_waits-idle.ensures ∙ ap (list_any waits) c.deref.ensures.value) in
-    let renews = subst (λ xs. RenewsWhere (idle && is_renewal_due space xs) space xs idle c.renew_where_due.new.space c.renew_where_due.new.actors) c.deref_mut.ensures.value c.renew_where_due.ensures in
+    let renews = subst (λ xs. RenewsWhere (idle && is_renewal_due space xs) space xs idle c.renew_where_due.new.space c.renew_where_due.new.actors) c.deref_mut.ensures.value c.renew_where_due.ensures.renews in
     renewed_space (idle && is_renewal_due space actors) c.args.settings script rested.history rested.stands.0 space actors idle c.renew_where_due.new.space c.renew_where_due.new.actors stands renews
 
-pub returns-then-rest : goal.returns-then-rest
-returns-then-rest g c = λ script before calls m ran newest. (
+pub returns-then-rest-clause-rests : goal.returns-then-rest-clause-rests
+returns-then-rest-clause-rests g c = λ script before calls m ran newest. (
     let ended : c.rest.result ≡ true = cc in
     let rested = subst (HasRested (run_of c.args.settings script) calls c.args.actors.items c.rest.new.space c.rest.new.actors.items) ended (c.rest.ensures.rests script before calls m ran) in
     subst (λ (s : Space). ComesToRest c.args.settings script calls (mutators_in c.args.actors.items) (stage.Ended s c.rest.new.actors)) (sym c.of.ensures)
@@ -76,15 +76,15 @@ returns-then-rest g c = λ script before calls m ran newest. (
       at_rest = tt;
     }))
 
-pub returns-else-rest : goal.returns-else-rest
-returns-else-rest g c = λ script before calls m ran newest. (
+pub returns-else-rest-clause-rests : goal.returns-else-rest-clause-rests
+returns-else-rest-clause-rests g c = λ script before calls m ran newest. (
     let more : c.rest.result ≡ false = cc in
     let rested = subst (HasRested (run_of c.args.settings script) calls c.args.actors.items c.rest.new.space c.rest.new.actors.items) more (c.rest.ensures.rests script before calls m ran) in
     let idle = not c.some_waits-idle.result in
     let space = c.rest.new.space in
     let actors = c.rest.new.actors.items in
     let stands = idle_stands c.args.settings script calls c.args.actors.items space actors rested ran.actors_rest.mutators c.requires.live c.some_waits-idle.result (c.some_waits-idle.ensures ∙ ap (list_any waits) c.deref.ensures.value) in
-    let renews = subst (λ xs. RenewsWhere (idle && is_renewal_due space xs) space xs idle c.renew_where_due.new.space c.renew_where_due.new.actors) c.deref_mut.ensures.value c.renew_where_due.ensures in
+    let renews = subst (λ xs. RenewsWhere (idle && is_renewal_due space xs) space xs idle c.renew_where_due.new.space c.renew_where_due.new.actors) c.deref_mut.ensures.value c.renew_where_due.ensures.renews in
     let due = idle && is_renewal_due space actors in
     let now = newest_behind (run_of c.args.settings script) rested.report calls (mutators_in c.args.actors.items) space actors rested.history rested.stands.0 rested.behind rested.stands.1 newest in
     let tests = c.some_waits-idle.ensures ∙ ap (list_any waits) c.deref.ensures.value in
@@ -115,3 +115,15 @@ returns-else-rest g c = λ script before calls m ran newest. (
       told = anew.told;
       at_rest = tt;
     }))
+
+pub returns-then-rest-clause-lists : goal.returns-then-rest-clause-lists
+returns-then-rest-clause-lists g c =
+    let ended : c.rest.result ≡ true = cc in
+    subst (λ b. ListsBehind b c.args.to_list.now c.rest.new.space c.rest.new.to_list) ended c.rest.ensures.lists
+
+pub returns-else-rest-clause-lists : goal.returns-else-rest-clause-lists
+returns-else-rest-clause-lists g c =
+    let more : c.rest.result ≡ false = cc in
+    let (unlisted, lists) = subst (λ b. ListsBehind b c.args.to_list.now c.rest.new.space c.rest.new.to_list) more c.rest.ensures.lists in
+    subst (λ (s : Space). HasListed c.args.to_list.now (stage.Between s (with_items c.rest.new.actors c.renew_where_due.new.actors)) c.rest.new.to_list) (sym c.of-else-rest.ensures)
+    (unlisted, c.rest.new.space, lists, c.renew_where_due.ensures.lists)

@@ -1,7 +1,7 @@
 use Rattle.std.proofs.Common.{subst, sym}
 use Rattle.lxr_one_pause.specs.Deciding.{IsPace}
 use Rattle.lxr_shared_heap.specs.Settings.{run_of}
-use Rattle.lxr_shared_heap.proofs.RestingLemmas.{rests_each}
+use Rattle.lxr_shared_heap.proofs.RestingLemmas.{lists_behind, rests_each}
 use Rattle.lxr_shared_heap.proofs.pausing.rest.Goals as goal
 
 pub follow_epoch-requires-clause-pace : goal.follow_epoch-requires-clause-pace
@@ -17,4 +17,8 @@ returns-clause-untold g c = c.follow_epoch.ensures.listed
 
 pub returns-clause-rests : goal.returns-clause-rests
 returns-clause-rests g c =
-    rests_each _ c.args.settings c.pace.result c.args.space.now c.follow_epoch.new.space c.args.actors.now.items c.follow_epoch.new.actors.items c.in-Ok.ended c.pace.ensures c.in-Ok.ensures.ok
+    rests_each c.args.to_list.now c.follow_epoch.new.to_list _ c.args.settings c.pace.result c.args.space.now c.follow_epoch.new.space c.args.actors.now.items c.follow_epoch.new.actors.items c.in-Ok.ended c.pace.ensures c.in-Ok.ensures.ok
+
+pub returns-clause-lists : goal.returns-clause-lists
+returns-clause-lists g c =
+    lists_behind c.args.to_list.now c.follow_epoch.new.to_list _ c.args.settings c.pace.result c.args.space.now c.follow_epoch.new.space c.args.actors.now.items c.follow_epoch.new.actors.items c.in-Ok.ended c.pace.ensures c.in-Ok.ensures.ok c.in-Ok.ensures.kept c.requires.made

@@ -7,7 +7,7 @@ use Rattle.lxr_invariant.specs.AbstractState.{AbstractState}
 use Rattle.lxr_core.specs.declared.actors.AnyActor.{AnyActor}
 use Rattle.lxr_shared_heap.specs.declared.settings.Settings.{Settings}
 use Rattle.lxr_shared_heap.specs.Renewing.{HasRenewed, RenewsWhere, StandsIdle, is_renewal_due}
-use Rattle.lxr_shared_heap.proofs.RenewingLemmas.{counted_few, counted_many, each_can, has_renewed, may_renew, ns}
+use Rattle.lxr_shared_heap.proofs.RenewingLemmas.{counted_few, counted_many, each_can, has_renewed, lists_left, may_renew, ns}
 use Rattle.lxr_shared_heap.proofs.renewing.renew_where_due.Goals as goal
 
 -- where it is told to be idle, it is
@@ -53,8 +53,8 @@ renew_actors-requires c =
     let len = c.len.ensures in
     each_can settings script c.args.space.now c.args.actors.now h g idle due (c.len.result - 1) (omega (arith, many, len))
 
-pub returns-then-is_renewal_due : goal.returns-then-is_renewal_due
-returns-then-is_renewal_due c =
+pub returns-then-is_renewal_due-clause-renews : goal.returns-then-is_renewal_due-clause-renews
+returns-then-is_renewal_due-clause-renews c =
     let due = sym c.is_renewal_due.ensures ∙ c.if-is_renewal_due.true in
     let both : (c.args.idle && is_renewal_due c.args.space.now c.args.actors.now) ≡ true = λ i. c.if-idle.true i && due i in
     subst (λ b. RenewsWhere b c.args.space.now c.args.actors.now c.args.idle c.renew_names.new.space c.renew_actors.new.actors) (sym both)
@@ -67,3 +67,13 @@ returns-then-is_renewal_due c =
     subst (λ actors'. HasRenewed settings c.args.actors.now c.renew_names.new.space actors' h) (sym c.renew_actors.ensures)
     (has_renewed settings script c.args.space.now c.args.actors.now h g idle due (c.len.result - 1) all c.tell_counts.new.space c.renew_names.new.space tells
     (c.renew_names.ensures g (ns settings script c.args.space.now c.args.actors.now h g idle due) (may_renew settings script c.args.space.now c.args.actors.now h g idle due c.tell_counts.new.space tells))))
+
+pub returns-then-is_renewal_due-clause-lists : goal.returns-then-is_renewal_due-clause-lists
+returns-then-is_renewal_due-clause-lists c =
+    let (settings, script, h, g, stands) = c.requires in
+    let idle = stands_idle settings script c.args.space.now c.args.actors.now h g c.args.idle c.if-idle.true stands in
+    let due = sym c.is_renewal_due.ensures ∙ c.if-is_renewal_due.true in
+    let tells = c.tell_counts.ensures g.moment g.at stands.between.come.safepoint.holds in
+    let names = ns settings script c.args.space.now c.args.actors.now h g idle due in
+    lists_left c.args.space.now c.tell_counts.new.space c.renew_names.new.space g names tells
+    (c.renew_names.ensures g names (may_renew settings script c.args.space.now c.args.actors.now h g idle due c.tell_counts.new.space tells))

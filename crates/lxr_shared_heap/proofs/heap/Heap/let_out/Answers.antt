@@ -8,6 +8,7 @@ pub returns-in-Within-clause-none : goal.returns-in-Within-clause-none
 returns-in-Within-clause-none c =
     let (script, h, of) = c.self.invariant in
     let settings = c.self.inside.settings in
-    let of' = subst (λ s. IsHeapOf script h (record { settings = settings; stage = s })) c.in-Within.is of in
-    subst (λ x. IfErr c.let_out.result (λ why. IsKept x c.args.number why)) (ap (λ s. record { settings = settings; stage = s }) (sym c.in-Within.is) ∙ c.self.view_is)
-    (kept_for settings script h c.in-Within.live c.args.number c.let_out.result of' c.let_out.ensures.none)
+    let to_list = c.self.inside.to_list in
+    let of' = subst (λ s. IsHeapOf script h (record { settings = settings; stage = s; to_list = to_list })) c.in-Within.is of in
+    subst (λ x. IfErr c.let_out.result (λ why. IsKept x c.args.number why)) (ap (λ s. record { settings = settings; stage = s; to_list = to_list }) (sym c.in-Within.is) ∙ c.self.view_is)
+    (kept_for settings to_list script h c.in-Within.live c.args.number c.let_out.result of' c.let_out.ensures.none)

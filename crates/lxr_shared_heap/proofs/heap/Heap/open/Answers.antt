@@ -27,6 +27,7 @@ pub returns-in-Ok-clause-opened : goal.returns-in-Ok-clause-opened
 returns-in-Ok-clause-opened c =
     let script = replicate c.args.settings.mutators [] in record {
       settings_are = refl;
+      lists = c.to_list.ensures;
       between = tt;
       holds = record {
         settings = c.are_in_range.ensures.0 cc;

@@ -8,6 +8,6 @@ invariant_of-self c =
     let (script, h, of) = c.self.invariant in (
       script,
       h,
-      resumed_same c.resumed-stage.result.1 _ _ (c.resumed-stage.ensures c.self.inside.settings) script h
-          (subst (λ s. IsHeapOf script h (record { settings = c.self.inside.settings; stage = s })) (sym c.replace-stage.ensures.value) of),
+      resumed_same c.resumed-stage.result.1 _ _ (c.resumed-stage.ensures c.self.inside.settings c.self.inside.to_list) script h
+          (subst (λ s. IsHeapOf script h (record { settings = c.self.inside.settings; stage = s; to_list = c.self.inside.to_list })) (sym c.replace-stage.ensures.value) of),
     )
