@@ -13,4 +13,3 @@ pub mod WantedLemmas
 pub mod MakingLemmas
 pub mod ApplyLemmas
 pub mod CallLemmas
-pub mod AtOnceLemmas

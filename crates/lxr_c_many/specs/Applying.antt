@@ -97,11 +97,6 @@ PerformsEntry x h e y k told = (a : Asked) × (asked_of (registers_in x) e ≡ O
 abbrev pub with_told : Operation → Told → Operation
 with_told e told = record e { word = written_over e.word told.word }
 
--- So was what an entry asks for, whatever the history: the entry f is the one with the word that this told, and c its code.
-abbrev pub PerformsAt : HostHeap → Operation → HostHeap → Operation → Code → Type 0
-PerformsAt x e y f c =
-    (told : Told) × (c ≡ told.code) × (f ≡ with_told e told) × ((h : List LargeItem) → IsHostOf x h → (k : List LargeItem) × PerformsEntry x h e y k told)
-
 -- ---- operations in turn
 
 -- Entries were done in turn, up to the first whose code isn't that of success: what each told, the code of the last, and how many were done with

@@ -6,4 +6,3 @@ pub mod Calling
 pub mod Making
 pub mod Applying
 pub mod Clearing
-pub mod Trying

@@ -1,15 +1,13 @@
 //! A list of operations, done in turn.
-ghost use Rattle.std.specs.Prelude.{◌≡◌, IfOk, Some, Ok, List};
+ghost use Rattle.std.specs.Prelude.{◌≡◌, Some, Ok, List};
 ghost use Rattle.lxr_large_model.specs.History.{LargeItem};
 ghost use Rattle.lxr_c_base.specs.Codes.{flag as is_flag};
 ghost use Rattle.lxr_c_heap.specs.Hosting.{IsHostOf, IsServing, all_registers_in, registers_in};
 ghost use Rattle.lxr_c_many.specs.declared.applying.Told.{Told as ToldOf};
 ghost use Rattle.lxr_c_many.specs.Applying as applying;
-ghost use Rattle.lxr_c_many.specs.Applying.{AllAsk, Applies, AppliesAll, Asks, MayBeAsked, Performs, PerformsAt, all_told};
+ghost use Rattle.lxr_c_many.specs.Applying.{AllAsk, Applies, AppliesAll, Asks, MayBeAsked, Performs, PerformsEntry, all_told, with_told};
 
 use crate::asked::{Asked, Operation, asked_of, look_over};
-use crate::trying::{try_get, try_load, try_put};
-use lxr_c_base::requests::{self, register_of};
 use lxr_c_base::{Code, code_of};
 use lxr_c_heap::{Handle, HostHeap};
 use lxr_graph::Reply;
@@ -82,18 +80,17 @@ pub fn perform(heap: &mut HostHeap, asked: Asked) -> Told
     }
 }
 
-/// Does what an entry asks for, which is known, and writes the word that this tells into it.
+/// Does what an entry asks for, and writes the word that this tells into it.
 #[inline(always)]
-fn perform_asked(heap: &mut HostHeap, entry: &mut Operation, asked: Result<Asked, Code>) -> Code
+fn perform_at(heap: &mut HostHeap, entry: &mut Operation) -> Code
     requires serving { IsServing heap.old }
     requires asks { Asks (registers_in heap.old) entry.old }
-    requires asked { asked ≡ applying.asked_of (registers_in heap.old) entry.old }
-    requires may { IfOk asked (MayBeAsked (registers_in heap.old)) }
-    ensures performs { PerformsAt heap.old entry.old heap.new entry.new result }
+    ensures performs { (told : ToldOf) × (result ≡ told.code) × (entry.new ≡ with_told entry.old told)
+        × ((h : List LargeItem) → IsHostOf heap.old h → (k : List LargeItem) × PerformsEntry heap.old h entry.old heap.new k told) }
     ensures registers { registers_in heap.new ≡ registers_in heap.old }
     ensures serving { IsServing heap.new }
 {
-    match asked {
+    match asked_of(heap.named, *entry) {
         Err(_) => unreachable!(),
         Ok(asked) => {
             let told = perform(heap, asked);
@@ -102,109 +99,6 @@ fn perform_asked(heap: &mut HostHeap, entry: &mut Operation, asked: Result<Asked
             }
             told.code
         }
-    }
-}
-
-/// Does what an entry asks for where there is no such field as it names.
-#[cold]
-#[inline(never)]
-fn perform_aside(heap: &mut HostHeap, entry: &mut Operation) -> Code
-    requires serving { IsServing heap.old }
-    requires asks { Asks (registers_in heap.old) entry.old }
-    ensures performs { PerformsAt heap.old entry.old heap.new entry.new result }
-    ensures registers { registers_in heap.new ≡ registers_in heap.old }
-    ensures serving { IsServing heap.new }
-{
-    let asked = asked_of(heap.named, *entry);
-    perform_asked(heap, entry, asked)
-}
-
-/// Does what an entry asks for that loads a reference.
-#[inline(always)]
-fn load_at(heap: &mut HostHeap, entry: &mut Operation) -> Code
-    requires serving { IsServing heap.old }
-    requires asks { Asks (registers_in heap.old) entry.old }
-    requires op { entry.old.op ≡ 1 }
-    ensures performs { PerformsAt heap.old entry.old heap.new entry.new result }
-    ensures registers { registers_in heap.new ≡ registers_in heap.old }
-    ensures serving { IsServing heap.new }
-{
-    if try_load(heap, entry.a, entry.b, entry.c) {
-        return Code::Done;
-    }
-    perform_aside(heap, entry)
-}
-
-/// Does what an entry asks for that reads a data word.
-#[inline(always)]
-fn get_at(heap: &mut HostHeap, entry: &mut Operation) -> Code
-    requires serving { IsServing heap.old }
-    requires asks { Asks (registers_in heap.old) entry.old }
-    requires op { entry.old.op ≡ 3 }
-    ensures performs { PerformsAt heap.old entry.old heap.new entry.new result }
-    ensures registers { registers_in heap.new ≡ registers_in heap.old }
-    ensures serving { IsServing heap.new }
-{
-    match try_get(heap, entry.a, entry.b) {
-        Some(word) => {
-            entry.word = word;
-            Code::Done
-        }
-        None => perform_aside(heap, entry),
-    }
-}
-
-/// Does what an entry asks for that writes a data word.
-#[inline(always)]
-fn put_at(heap: &mut HostHeap, entry: &mut Operation) -> Code
-    requires serving { IsServing heap.old }
-    requires asks { Asks (registers_in heap.old) entry.old }
-    requires op { entry.old.op ≡ 4 }
-    ensures performs { PerformsAt heap.old entry.old heap.new entry.new result }
-    ensures registers { registers_in heap.new ≡ registers_in heap.old }
-    ensures serving { IsServing heap.new }
-{
-    if try_put(heap, entry.a, entry.b, entry.word) {
-        return Code::Done;
-    }
-    perform_aside(heap, entry)
-}
-
-/// Does what an entry asks for, and writes the word that this tells into it. Each operation has an arm of its own, so that its step is made for
-/// it alone.
-#[inline(always)]
-fn perform_at(heap: &mut HostHeap, entry: &mut Operation) -> Code
-    requires serving { IsServing heap.old }
-    requires asks { Asks (registers_in heap.old) entry.old }
-    ensures performs { PerformsAt heap.old entry.old heap.new entry.new result }
-    ensures registers { registers_in heap.new ≡ registers_in heap.old }
-    ensures serving { IsServing heap.new }
-{
-    let registers = heap.named;
-    let Operation { op, a, b, c, .. } = *entry;
-    match op {
-        0 => perform_asked(
-            heap,
-            entry,
-            requests::new(registers, a, b, c).map(Asked::Make),
-        ),
-        1 => load_at(heap, entry),
-        2 => perform_asked(
-            heap,
-            entry,
-            requests::set_reference(registers, a, b, c).map(Asked::Store),
-        ),
-        3 => get_at(heap, entry),
-        4 => put_at(heap, entry),
-        5 => perform_asked(heap, entry, requests::same(registers, a, b).map(Asked::See)),
-        6 => perform_asked(
-            heap,
-            entry,
-            requests::copy(registers, a, b).map(Asked::Reply),
-        ),
-        7 => perform_asked(heap, entry, requests::nil(registers, a).map(Asked::Reply)),
-        8 => perform_asked(heap, entry, register_of(registers, a).map(Asked::IsNil)),
-        _ => perform_asked(heap, entry, Err(Code::What)),
     }
 }
 

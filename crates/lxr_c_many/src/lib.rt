@@ -10,7 +10,6 @@ mod log;
 mod making;
 mod references;
 mod steps;
-mod trying;
 mod words;
 
 pub use applying::{Applied, Told, apply, perform, word_of};

@@ -429,19 +429,6 @@ impl Mutator {
         self.agenda.op()
     }
 
-    /// The same, of an operation that is known to be it: it is asked of no memory.
-    #[inline(always)]
-    fn known(&self, op: Op) -> Op
-        requires op { op ≡ op_now self.now }
-        ensures op { result ≡ op_now self.now }
-        ensures formed { IsFormedFor self.now.width result }
-        ensures named { dest_of result < self.now.width }
-        ensures fits { FitsShape (shape_made result) }
-    {
-        self.op();
-        op
-    }
-
     /// Says again which operation's turn it is, so that the code that follows is made for that one alone, where it is known.
     #[inline(always)]
     fn recall(&mut self, op: Op)

@@ -81,21 +81,19 @@ impl Mutator {
 
     /// A reference was loaded: its register holds what it refers to. Who tells names looks its name up, unless it is nil.
     #[inline(always)]
-    pub(super) fn keep_reference(&mut self, op: Op, base: Place, reference: u64)
-        requires busy { IsBusy self.old (MutatorPhase.Reference base) }
-        requires op { op ≡ op_now self.old }
+    pub(super) fn keep_reference(&mut self, base: Place, reference: u64)
+        requires { IsBusy self.old (MutatorPhase.Reference base) }
         ensures { self.new ≡ next_in self.old (MutatorPhase.Reference base) reference }
     {
-        self.hold_reference(op, reference);
+        self.hold_reference(reference);
     }
 
     /// A word was found in the field: where it is a reference, its register holds what it refers to. Who tells names looks its name up,
     /// unless it is nil.
     #[inline(always)]
-    fn hold_reference(&mut self, op: Op, reference: u64)
+    fn hold_reference(&mut self, reference: u64)
         requires turn { self.old.phase ≢ MutatorPhase.Finished }
         requires operation { length self.old.replies.items < length self.old.operations }
-        requires op { op ≡ op_now self.old }
         ensures { self.new ≡ (if nat_le reference (MOST_GRANULES) then loaded self.old (place_in reference) else done_with self.old Reply.Bad) }
     {
         if reference > u64::from(MOST_GRANULES) {
@@ -103,7 +101,7 @@ impl Mutator {
             return;
         }
         let place = Place(reference as u32);
-        let op = self.known(op);
+        let op = self.op();
         self.set_register(dest_of(op), place);
         if place.0 == 0 {
             self.reply(found_reply(op, None));
@@ -116,22 +114,20 @@ impl Mutator {
 
     /// The header of what was loaded or swapped out is loaded too: the operation is done, with the name that it tells.
     #[inline(always)]
-    pub(super) fn name_referent(&mut self, op: Op, place: Place, header: u64)
-        requires busy { IsBusy self.old (MutatorPhase.Referent place) }
-        requires op { op ≡ op_now self.old }
+    pub(super) fn name_referent(&mut self, place: Place, header: u64)
+        requires { IsBusy self.old (MutatorPhase.Referent place) }
         ensures { self.new ≡ next_in self.old (MutatorPhase.Referent place) header }
     {
         match unpack(header) {
-            Header::Object(name, _) => self.reply(found_reply(op, Some(name))),
+            Header::Object(name, _) => self.reply(found_reply(self.op(), Some(name))),
             Header::Moved(_) => self.reply_seldom(Reply::Bad),
         }
     }
 
     /// The store or swap in progress goes on.
     #[inline(always)]
-    pub(super) fn step_store(&mut self, op: Op, old: u64)
-        requires phase { (store : Storing) × (self.old.phase ≡ MutatorPhase.Storing store) }
-        requires op { op ≡ op_now self.old }
+    pub(super) fn step_store(&mut self, old: u64)
+        requires { (store : Storing) × (self.old.phase ≡ MutatorPhase.Storing store) }
         ensures { (store : Storing) → self.old.phase ≡ MutatorPhase.Storing store → self.new ≡ next_in self.old (MutatorPhase.Storing store) old }
     {
         let MutatorPhase::Storing(machine) = &mut self.phase else {
@@ -146,7 +142,7 @@ impl Mutator {
             }
             Some(StoreEnd::Swapped { .. }) => {
                 self.phase = MutatorPhase::Ready;
-                self.hold_reference(op, old);
+                self.hold_reference(old);
             }
             Some(StoreEnd::LogFull) => self.phase = MutatorPhase::GivingUp(Stop::LogFull),
         }

@@ -1,8 +1,8 @@
 //! Units straight through: from each step the code goes on to what can follow it, and asks for no phase that it knows.
 //!
 //! Each step is the one that `next` tells, and what was found is taken by the stage that `take` would call. Lines are drawn
-//! seldom, and by the general way. Where the caller knows the operation, so does each stage, and memory is told it again before a
-//! step whose action asks for it: no stage asks memory which operation it is.
+//! seldom, and by the general way. Where the caller knows the operation, so does each stage, which says it again once its word was
+//! loaded: no stage asks memory which operation it is.
 ghost use Rattle.std.specs.Prelude.{◌≡◌, ℕ};
 ghost use Rattle.lxr_layout.specs.declared.Place.{Place};
 ghost use Rattle.lxr_graph.specs.declared.Op.TheVariants as op;
@@ -16,7 +16,7 @@ use super::Mutator;
 use crate::phases::MutatorPhase;
 use lxr_actor::{Actor, Steps, do_unit, finish_unit};
 use lxr_graph::Op;
-use lxr_layout::{Place, Shape};
+use lxr_layout::Place;
 
 impl Mutator {
     /// Does one unit, and no step where it is through with the epoch.
@@ -39,26 +39,64 @@ impl Mutator {
         ensures holds { S.holds table.now steps.new self.new }
     {
         match op {
+            Op::Move { dest, source } => self.do_move(dest, source, steps, table),
+            Op::Nil { dest } => self.do_nil(dest, steps, table),
+            Op::Same { left, right } => self.do_same(left, right, steps, table),
             Op::Get { base, index } => self.do_get(base, index, steps, table),
             Op::Put { base, index, value } => self.do_put(base, index, value, steps, table),
             Op::Add { base, index, value } => self.do_add(base, index, value, steps, table),
             Op::Load { dest, base, index } => self.do_load(dest, base, index, steps, table),
-            Op::Store {
-                base,
-                index,
-                source,
-            } => self.do_store(base, index, source, steps, table),
-            Op::Swap {
-                dest,
-                base,
-                index,
-                source,
-            } => {
-                self.do_swap(dest, base, index, source, steps, table);
-            }
-            Op::New { dest, shape } => self.do_new(dest, shape, steps, table),
-            _ => self.do_in_registers(op, steps, table),
+            _ => self.do_any(op, steps, table),
         }
+    }
+
+    /// One unit of any operation.
+    #[inline(never)]
+    fn do_any<T, S: Steps<Mutator, T>>(&mut self, op: Op, steps: &mut S, table: &T)
+        requires op { op ≡ op_now self.old }
+        requires holds { S.holds table.now steps.old self.old }
+        ensures unit { DoesUnit mutator_machine S.did self.old steps.old self.new steps.new }
+        ensures holds { S.holds table.now steps.new self.new }
+    {
+        if let MutatorPhase::Ready = self.phase {
+            self.load_pause_word(op, steps, table);
+            self.operate(op, steps, table);
+        } else {
+            self.do_unit_by_phases(steps, table);
+        }
+    }
+
+    /// One unit of a `move`.
+    #[inline(never)]
+    fn do_move<T, S: Steps<Mutator, T>>(&mut self, dest: u8, source: u8, steps: &mut S, table: &T)
+        requires op { op.Move dest source ≡ op_now self.old }
+        requires holds { S.holds table.now steps.old self.old }
+        ensures unit { DoesUnit mutator_machine S.did self.old steps.old self.new steps.new }
+        ensures holds { S.holds table.now steps.new self.new }
+    {
+        self.do_in_registers(Op::Move { dest, source }, steps, table);
+    }
+
+    /// One unit of a `nil`.
+    #[inline(never)]
+    fn do_nil<T, S: Steps<Mutator, T>>(&mut self, dest: u8, steps: &mut S, table: &T)
+        requires op { op.Nil dest ≡ op_now self.old }
+        requires holds { S.holds table.now steps.old self.old }
+        ensures unit { DoesUnit mutator_machine S.did self.old steps.old self.new steps.new }
+        ensures holds { S.holds table.now steps.new self.new }
+    {
+        self.do_in_registers(Op::Nil { dest }, steps, table);
+    }
+
+    /// One unit of a `same`.
+    #[inline(never)]
+    fn do_same<T, S: Steps<Mutator, T>>(&mut self, left: u8, right: u8, steps: &mut S, table: &T)
+        requires op { op.Same left right ≡ op_now self.old }
+        requires holds { S.holds table.now steps.old self.old }
+        ensures unit { DoesUnit mutator_machine S.did self.old steps.old self.new steps.new }
+        ensures holds { S.holds table.now steps.new self.new }
+    {
+        self.do_in_registers(Op::Same { left, right }, steps, table);
     }
 
     /// One unit of an operation that may be done by its first step.
@@ -85,7 +123,7 @@ impl Mutator {
         ensures unit { DoesUnit mutator_machine S.did self.old steps.old self.new steps.new }
         ensures holds { S.holds table.now steps.new self.new }
     {
-        self.do_straight(Op::Get { base, index }, steps, table);
+        self.do_on_datum(Op::Get { base, index }, steps, table);
     }
 
     /// One unit of a `put`.
@@ -103,7 +141,7 @@ impl Mutator {
         ensures unit { DoesUnit mutator_machine S.did self.old steps.old self.new steps.new }
         ensures holds { S.holds table.now steps.new self.new }
     {
-        self.do_straight(Op::Put { base, index, value }, steps, table);
+        self.do_on_datum(Op::Put { base, index, value }, steps, table);
     }
 
     /// One unit of an `add`.
@@ -121,7 +159,7 @@ impl Mutator {
         ensures unit { DoesUnit mutator_machine S.did self.old steps.old self.new steps.new }
         ensures holds { S.holds table.now steps.new self.new }
     {
-        self.do_straight(Op::Add { base, index, value }, steps, table);
+        self.do_on_datum(Op::Add { base, index, value }, steps, table);
     }
 
     /// One unit of a `load`.
@@ -139,77 +177,12 @@ impl Mutator {
         ensures unit { DoesUnit mutator_machine S.did self.old steps.old self.new steps.new }
         ensures holds { S.holds table.now steps.new self.new }
     {
-        self.do_straight(Op::Load { dest, base, index }, steps, table);
+        self.do_on_reference(Op::Load { dest, base, index }, steps, table);
     }
 
-    /// One unit of a `store`.
-    #[inline(never)]
-    fn do_store<T, S: Steps<Mutator, T>>(
-        &mut self,
-        base: u8,
-        index: u16,
-        source: u8,
-        steps: &mut S,
-        table: &T,
-    )
-        requires op { op.Store base index source ≡ op_now self.old }
-        requires holds { S.holds table.now steps.old self.old }
-        ensures unit { DoesUnit mutator_machine S.did self.old steps.old self.new steps.new }
-        ensures holds { S.holds table.now steps.new self.new }
-    {
-        self.do_straight(
-            Op::Store {
-                base,
-                index,
-                source,
-            },
-            steps,
-            table,
-        );
-    }
-
-    /// One unit of a `swap`.
-    #[inline(never)]
-    fn do_swap<T, S: Steps<Mutator, T>>(
-        &mut self,
-        dest: u8,
-        base: u8,
-        index: u16,
-        source: u8,
-        steps: &mut S,
-        table: &T,
-    )
-        requires op { op.Swap dest base index source ≡ op_now self.old }
-        requires holds { S.holds table.now steps.old self.old }
-        ensures unit { DoesUnit mutator_machine S.did self.old steps.old self.new steps.new }
-        ensures holds { S.holds table.now steps.new self.new }
-    {
-        self.do_straight(
-            Op::Swap {
-                dest,
-                base,
-                index,
-                source,
-            },
-            steps,
-            table,
-        );
-    }
-
-    /// One unit of a `new`.
-    #[inline(never)]
-    fn do_new<T, S: Steps<Mutator, T>>(&mut self, dest: u8, shape: Shape, steps: &mut S, table: &T)
-        requires op { op.New dest shape ≡ op_now self.old }
-        requires holds { S.holds table.now steps.old self.old }
-        ensures unit { DoesUnit mutator_machine S.did self.old steps.old self.new steps.new }
-        ensures holds { S.holds table.now steps.new self.new }
-    {
-        self.do_straight(Op::New { dest, shape }, steps, table);
-    }
-
-    /// One unit of an operation that takes more steps than its first.
+    /// One unit of an operation on a data word.
     #[inline(always)]
-    fn do_straight<T, S: Steps<Mutator, T>>(&mut self, op: Op, steps: &mut S, table: &T)
+    fn do_on_datum<T, S: Steps<Mutator, T>>(&mut self, op: Op, steps: &mut S, table: &T)
         requires op { op ≡ op_now self.old }
         requires holds { S.holds table.now steps.old self.old }
         ensures unit { DoesUnit mutator_machine S.did self.old steps.old self.new steps.new }
@@ -217,9 +190,59 @@ impl Mutator {
     {
         if let MutatorPhase::Ready = self.phase {
             self.load_pause_word(op, steps, table);
-            self.operate(op, steps, table);
+            self.reach_datum(op, steps, table);
         } else {
             self.do_unit_by_phases(steps, table);
+        }
+    }
+
+    /// Does what is left of it, once the pause word was loaded.
+    #[inline(always)]
+    fn reach_datum<T, S: Steps<Mutator, T>>(&mut self, op: Op, steps: &mut S, table: &T)
+        requires op { IsAskedIn self.old.phase op (op_now self.old) }
+        requires holds { S.holds table.now steps.old self.old }
+        ensures rest { Finishes mutator_machine S.did self.old steps.old self.new steps.new }
+        ensures holds { S.holds table.now steps.new self.new }
+    {
+        match self.phase {
+            MutatorPhase::Base { base } => {
+                self.load_header(op, base, steps, table);
+                self.access_datum(steps, table);
+            }
+            _ => self.finish(steps, table),
+        }
+    }
+
+    /// One unit of an operation on a reference that it loads.
+    #[inline(always)]
+    fn do_on_reference<T, S: Steps<Mutator, T>>(&mut self, op: Op, steps: &mut S, table: &T)
+        requires op { op ≡ op_now self.old }
+        requires holds { S.holds table.now steps.old self.old }
+        ensures unit { DoesUnit mutator_machine S.did self.old steps.old self.new steps.new }
+        ensures holds { S.holds table.now steps.new self.new }
+    {
+        if let MutatorPhase::Ready = self.phase {
+            self.load_pause_word(op, steps, table);
+            self.reach_reference(op, steps, table);
+        } else {
+            self.do_unit_by_phases(steps, table);
+        }
+    }
+
+    /// Does what is left of it, once the pause word was loaded.
+    #[inline(always)]
+    fn reach_reference<T, S: Steps<Mutator, T>>(&mut self, op: Op, steps: &mut S, table: &T)
+        requires op { IsAskedIn self.old.phase op (op_now self.old) }
+        requires holds { S.holds table.now steps.old self.old }
+        ensures rest { Finishes mutator_machine S.did self.old steps.old self.new steps.new }
+        ensures holds { S.holds table.now steps.new self.new }
+    {
+        match self.phase {
+            MutatorPhase::Base { base } => {
+                self.load_header(op, base, steps, table);
+                self.access_reference(op, steps, table);
+            }
+            _ => self.finish(steps, table),
         }
     }
 
@@ -231,25 +254,12 @@ impl Mutator {
         ensures rest { Finishes mutator_machine S.did self.old steps.old self.new steps.new }
         ensures holds { S.holds table.now steps.new self.new }
     {
-        match op {
-            Op::New { .. } => self.make_object(op, steps, table),
-            _ => self.reach(op, steps, table),
-        }
-    }
-
-    /// Does what is left of an operation on a field, once the pause word was loaded.
-    #[inline(always)]
-    fn reach<T, S: Steps<Mutator, T>>(&mut self, op: Op, steps: &mut S, table: &T)
-        requires op { IsAskedIn self.old.phase op (op_now self.old) }
-        requires holds { S.holds table.now steps.old self.old }
-        ensures rest { Finishes mutator_machine S.did self.old steps.old self.new steps.new }
-        ensures holds { S.holds table.now steps.new self.new }
-    {
         match self.phase {
             MutatorPhase::Base { base } => {
                 self.load_header(op, base, steps, table);
                 self.access(op, steps, table);
             }
+            MutatorPhase::Wiping { .. } => self.make_object(op, steps, table),
             _ => self.finish(steps, table),
         }
     }
@@ -262,9 +272,9 @@ impl Mutator {
         ensures rest { Finishes mutator_machine S.did self.old steps.old self.new steps.new }
         ensures holds { S.holds table.now steps.new self.new }
     {
-        match op {
-            Op::Load { .. } => self.access_reference(op, steps, table),
-            Op::Store { .. } | Op::Swap { .. } => self.store(op, steps, table),
+        match self.phase {
+            MutatorPhase::Reference { .. } => self.access_reference(op, steps, table),
+            MutatorPhase::Storing(_) => self.store(op, steps, table),
             _ => self.access_datum(steps, table),
         }
     }
@@ -310,8 +320,8 @@ impl Mutator {
         }
     }
 
-    /// Does what is left of a `store` to a reference, or of a `swap`.
-    #[inline(always)]
+    /// Does what is left of a `store` to a reference, or of a `swap`, as a call.
+    #[inline(never)]
     fn store<T, S: Steps<Mutator, T>>(&mut self, op: Op, steps: &mut S, table: &T)
         requires op { IsAskedIn self.old.phase op (op_now self.old) }
         requires holds { S.holds table.now steps.old self.old }
@@ -448,7 +458,8 @@ impl Mutator {
         ensures holds { S.holds table.now steps.new self.new }
     {
         let word = steps.step(table, self);
-        self.look_at_pause_word(op, word);
+        self.recall(op);
+        self.look_at_pause_word(word);
     }
 
     /// Loads the header of the base.
@@ -487,7 +498,8 @@ impl Mutator {
         ensures holds { S.holds table.now steps.new self.new }
     {
         let reference = steps.step(table, self);
-        self.keep_reference(op, base, reference);
+        self.recall(op);
+        self.keep_reference(base, reference);
     }
 
     /// Loads the header of what was loaded or swapped out.
@@ -500,7 +512,8 @@ impl Mutator {
         ensures holds { S.holds table.now steps.new self.new }
     {
         let header = steps.step(table, self);
-        self.name_referent(op, place, header);
+        self.recall(op);
+        self.name_referent(place, header);
     }
 
     /// Loads the data word that `get` asks for.
@@ -548,8 +561,9 @@ impl Mutator {
         ensures step { Does mutator_machine S.did self.old steps.old self.new steps.new }
         ensures holds { S.holds table.now steps.new self.new }
     {
-        let found = steps.step(table, self);
-        self.step_store(op, found);
+        let old = steps.step(table, self);
+        self.recall(op);
+        self.step_store(old);
     }
 
     /// Stores 0 to a word of the new object.
@@ -587,6 +601,7 @@ impl Mutator {
     {
         self.recall(op);
         steps.step(table, self);
-        self.hand_out(op, place);
+        self.recall(op);
+        self.hand_out(place);
     }
 }

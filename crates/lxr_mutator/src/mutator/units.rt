@@ -98,15 +98,14 @@ impl Mutator {
 
     /// The pause word was loaded: the unit ends where it was 1, and else its operation begins.
     #[inline(always)]
-    pub(super) fn look_at_pause_word(&mut self, op: Op, old: u64)
-        requires phase { self.old.phase ≡ MutatorPhase.Ready }
-        requires op { op ≡ op_now self.old }
+    pub(super) fn look_at_pause_word(&mut self, old: u64)
+        requires { self.old.phase ≡ MutatorPhase.Ready }
         ensures { self.new ≡ after_in self.old MutatorPhase.Ready old }
     {
         if old == 1 {
             self.stop(MutEnd::Asked);
         } else {
-            self.begin(self.known(op));
+            self.begin(self.op());
         }
     }
 
@@ -263,15 +262,15 @@ impl Actor for Mutator {
     #[inline(always)]
     fn take(&mut self, old: u64) {
         match self.phase {
-            MutatorPhase::Ready => self.look_at_pause_word(self.op(), old),
+            MutatorPhase::Ready => self.look_at_pause_word(old),
             MutatorPhase::Finished => {}
             MutatorPhase::Base { base } => self.reach_field(base, old),
-            MutatorPhase::Reference { base } => self.keep_reference(self.op(), base, old),
-            MutatorPhase::Referent { place } => self.name_referent(self.op(), place, old),
+            MutatorPhase::Reference { base } => self.keep_reference(base, old),
+            MutatorPhase::Referent { place } => self.name_referent(place, old),
             MutatorPhase::Datum { .. } => self.tell_datum(old),
             MutatorPhase::Putting { .. } => self.end_put(),
             MutatorPhase::Adding { .. } => self.end_add(old),
-            MutatorPhase::Storing(_) => self.step_store(self.op(), old),
+            MutatorPhase::Storing(_) => self.step_store(old),
             MutatorPhase::DrawsRun => self.draw_run(old),
             MutatorPhase::RunNumber { number } => self.find_run(number, old),
             MutatorPhase::Run { number } => self.fill_run(number, old),
@@ -279,7 +278,7 @@ impl Actor for Mutator {
             MutatorPhase::BlockNumber { number } => self.find_block(number, old),
             MutatorPhase::Block { number } => self.fill_block(number, old),
             MutatorPhase::Wiping { place, next } => self.wipe_word(place, next),
-            MutatorPhase::Heading { place } => self.hand_out(self.op(), place),
+            MutatorPhase::Heading { place } => self.hand_out(place),
             MutatorPhase::Asking => self.end_asking(),
             MutatorPhase::GivingUp(stop) => self.give_up(stop),
         }

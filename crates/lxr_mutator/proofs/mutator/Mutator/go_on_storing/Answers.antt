@@ -1,11 +1,17 @@
+use Rattle.std.proofs.Common.{◌≡◌, ◌∙◌, ap}
+use Rattle.lxr_mutator.specs.declared.phases.MutatorPhase.TheVariants as phase
+use Rattle.lxr_mutator.specs.Mutating.{Mutating}
+use Rattle.lxr_mutator.specs.Steps.{next_in}
 use Rattle.lxr_mutator.proofs.StraightLemmas.{store_acts, store_staged}
 use Rattle.lxr_mutator.proofs.mutator.Mutator.go_on_storing.Goals as goal
 
-pub step-found-requires-clause-next : goal.step-found-requires-clause-next
-step-found-requires-clause-next g c = store_acts _ c.requires.busy.0 c.requires.busy.1
+pub step-old-requires-clause-next : goal.step-old-requires-clause-next
+step-old-requires-clause-next g c = store_acts _ c.requires.busy.0 c.requires.busy.1
 
 pub returns-clause-step : goal.returns-clause-step
 returns-clause-step g c =
     let store = c.requires.busy.0 in
     let busy = c.requires.busy.1 in
-    store_staged g.S.Steps.did c.args.self.now _ _ _ store c.step-found.result busy (c.step_store.ensures store busy.phase) c.step-found.ensures.did
+    let here : c.recall.new.self.phase ≡ phase.Storing store = ap (λ (m : Mutating). m.phase) c.recall.ensures ∙ busy.phase in
+    store_staged g.S.Steps.did c.args.self.now _ _ _ store c.step-old.result busy
+    (c.step_store.ensures store here ∙ ap (λ (m : Mutating). next_in m (phase.Storing store) c.step-old.result) c.recall.ensures) c.step-old.ensures.did

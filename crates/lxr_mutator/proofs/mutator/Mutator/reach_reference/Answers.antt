@@ -2,14 +2,14 @@ use Rattle.std.proofs.Common.{◌∙◌, ap, sym}
 use Rattle.lxr_actor.specs.Steps.{goes_on}
 use Rattle.lxr_mutator.specs.Mutating.{rests_in}
 use Rattle.lxr_mutator.proofs.StraightLemmas.{still_asked}
-use Rattle.lxr_mutator.proofs.mutator.Mutator.reach.Goals as goal
+use Rattle.lxr_mutator.proofs.mutator.Mutator.reach_reference.Goals as goal
 
 pub load_header-requires-clause-op : goal.load_header-requires-clause-op
 load_header-requires-clause-op g c = c.requires.op (ap (λ m. rests_in m.phase) (sym c.self.view_is) ∙ ap rests_in c.in-Base.is)
 
-pub access-requires-clause-op : goal.access-requires-clause-op
-access-requires-clause-op g c =
+pub access_reference-requires-clause-op : goal.access_reference-requires-clause-op
+access_reference-requires-clause-op g c =
     still_asked g.S.Steps.did _ _ _ _ c.args.op (c.requires.op (ap (λ m. rests_in m.phase) (sym c.self.view_is) ∙ ap rests_in c.in-Base.is)) c.load_header.ensures.step
 
 pub returns-in-Base-clause-rest : goal.returns-in-Base-clause-rest
-returns-in-Base-clause-rest g c = goes_on (ap (λ m. rests_in m.phase) (sym c.self.view_is) ∙ ap rests_in c.in-Base.is) c.load_header.ensures.step c.access.ensures.rest
+returns-in-Base-clause-rest g c = goes_on (ap (λ m. rests_in m.phase) (sym c.self.view_is) ∙ ap rests_in c.in-Base.is) c.load_header.ensures.step c.access_reference.ensures.rest
