@@ -90,7 +90,7 @@ typedef uint32_t lxr_code;
 #define LXR_E_KIND       20u /* the pass is of the other kind: a mutator's, or a helper's */
 #define LXR_E_EPOCH      21u /* an epoch is open, or none is, and the call is of the other time */
 #define LXR_E_NOT_WANTED 22u /* no pause is wanted */
-#define LXR_E_NOTHING    23u /* no operation was ordered yet */
+#define LXR_E_NOTHING    23u /* no operation was ordered yet; of lxr_trim_next, no block is free */
 #define LXR_E_ENDED      24u /* all mutators have ended; no call ends one */
 
 /* ---- A heap ---- */
@@ -101,6 +101,9 @@ typedef uint32_t lxr_code;
 
 #define LXR_GROW      100u   /* hundredths by which the room grows, by LXR_SETTINGS: twice what lives */
 #define LXR_MOST_GROW 10000u /* the most of them */
+
+#define LXR_WORK      8u       /* units for each 64 bytes of new objects, by LXR_SETTINGS */
+#define LXR_MOST_WORK 1000000u /* the most of them */
 
 /*
  * What a heap is made of. The first word is the size of it all, so that a program that was compiled with an older, shorter lxr_settings
@@ -117,6 +120,15 @@ typedef uint32_t lxr_code;
  * counts as the room, where that is more, so that a room which is too small makes no pause after pause: a `grow` of a few hundredths has no such
  * care. Room is told in bytes of objects, so where these leave blocks half empty, half as many blocks again may be in use by then. Bodies have
  * blocks of their own, and no room.
+ *
+ * A pause queues counts to be lowered, and the next one lowers them, with all that dies by it, however much that is. By `work` the library does
+ * that between the two, before an object is made, in slices of 64 * `work` units (lxr_work). The first slice after a pause is due once 4,096 bytes of
+ * new objects were made, or as many as make a pause due, where that is less; and each further one 4,096 bytes after the one before, until nothing is
+ * left for slices to do. A pause by the pace comes only then. By the room, where the log is full or no place is found, and where the host asks, one
+ * comes at once, and does first what still waits. Slices leave to the pause what begins with the death of an object that has more references, nil or
+ * not, than there is place left in the list of what waits, which has 1,024 and one for each register: so an array of more than some 20,000 elements
+ * (lxr_array_new), and after a pause by a full log an object of a few. That pause, and each where `work` is 0, is as long as what dies by it is
+ * large.
  */
 typedef struct lxr_settings {
     uint64_t size;        /* sizeof(lxr_settings) */
@@ -127,12 +139,15 @@ typedef struct lxr_settings {
     uint32_t unused;      /* nothing is said here */
     uint32_t room;        /* as of lxr_set_room, up to all blocks; 0: all, as of settings that end before it */
     uint32_t grow;        /* as of lxr_set_grow; 0, as of those settings, for never */
+    uint32_t work;        /* as of lxr_set_work; 0, as of settings that end before it, for none */
+    uint32_t reserved;    /* nothing is said here */
 } lxr_settings;
 
 /* Settings that mostly do, for so many blocks: sixteen registers; plain pauses come by the room there is, and a collecting one where it is
- * needed: at first where all blocks are in use, and after a collecting pause where twice as many are as that left. */
+ * needed: at first where all blocks are in use, and after a collecting pause where twice as many are as that left; and what waits for a plain
+ * pause is done before it, in slices. */
 #define LXR_SETTINGS(blocks, body_blocks) \
-    { sizeof(lxr_settings), (blocks), (body_blocks), LXR_PACE_ROOM, LXR_REGISTERS, 0, 0, LXR_GROW }
+    { sizeof(lxr_settings), (blocks), (body_blocks), LXR_PACE_ROOM, LXR_REGISTERS, 0, 0, LXR_GROW, LXR_WORK, 0 }
 
 /* The version of the archive: 65,536 times the major, 256 times the minor, and the patch number. */
 uint32_t lxr_version(void);
@@ -141,8 +156,8 @@ uint32_t lxr_version(void);
  * Opens a heap of these settings. All memory that the heap will ever use is reserved here, and returned by lxr_close; no other call asks for
  * memory. What is reserved is written as it is used, 32 KB at a time, so a system that promises more than it has may find out later, and end
  * the process then.
- * Codes: LXR_E_IN_USE; LXR_E_SIZE, where a number of blocks or of registers, the room or its growth is out of its range, or `size` is none that
- * the archive knows; LXR_E_MEMORY.
+ * Codes: LXR_E_IN_USE; LXR_E_SIZE, where a number of blocks or of registers, the room, its growth or the work is out of its range, or `size` is
+ * none that the archive knows; LXR_E_MEMORY.
  * Cost: grows with both numbers of blocks; some 27 bytes are written for each of `blocks`, and one for each of `body_blocks`.
  */
 lxr_code lxr_open(lxr_heap *heap, const lxr_settings *settings);
@@ -156,12 +171,12 @@ lxr_code lxr_close(lxr_heap *heap);
 /* ---- Objects ---- */
 
 /*
- * Register `dest` holds a new object with `refs` references, all nil, and `words` data words, all 0. A pause is made first where one is due, by
- * the pace or by the room, which collects where more blocks are in use than the room has; and a collecting one where there is no place. LXR_E_FULL
- * comes only right after a collecting pause, and only where the objects that can be reached can leave no run of free lines that fits, of all that
- * is reserved.
- * Codes: LXR_E_NO_HEAP, LXR_E_REGISTER, LXR_E_SIZE, LXR_E_FULL. Cost: grows with the size of the object; and that of a pause, where one is
- * made.
+ * Register `dest` holds a new object with `refs` references, all nil, and `words` data words, all 0. First what is due is done: a slice of what
+ * waits for the next pause (lxr_work); a pause, by the room, or by the pace where nothing is left for slices to do, which collects where more
+ * blocks are in use than the room has; and a collecting one where there is no place. LXR_E_FULL comes only right after a collecting pause, and only
+ * where the objects that can be reached can leave no run of free lines that fits, of all that is reserved.
+ * Codes: LXR_E_NO_HEAP, LXR_E_REGISTER, LXR_E_SIZE, LXR_E_FULL. Cost: grows with the size of the object; and that of a slice or of a
+ * pause, where one is made.
  */
 lxr_code lxr_new(lxr_heap *heap, uint32_t dest, uint32_t refs, uint32_t words);
 
@@ -487,6 +502,52 @@ lxr_code lxr_set_room(lxr_heap *heap, uint32_t blocks);
  */
 lxr_code lxr_set_grow(lxr_heap *heap, uint32_t hundredths);
 
+/*
+ * Memory of blocks that are wholly free goes back to the system, but for parts of a page; it comes again page by page where new objects take them.
+ * Nothing that a host can tell changes. Blocks are free after a pause, so lxr_collect before it gives most. Bodies' blocks stay. What a host owes:
+ * malloc gives private memory that is no file's, as that of the C library does.
+ * Code: LXR_E_NO_HEAP. Cost: grows with the number of blocks, and with the words of the free ones in which objects ever lay.
+ */
+lxr_code lxr_trim(lxr_heap *heap);
+
+/*
+ * What lxr_trim goes by, for a host that gives memory back by means of its own. This makes all words of the first wholly free block from number
+ * `from` on 0, and writes the number of that block. Nothing else changes. A word that is 0 isn't written, and a block in which no object ever lay
+ * isn't even read.
+ * Codes: LXR_E_NO_HEAP; LXR_E_NOTHING, where no block from there on is free. Cost: constant for each block up to that one, and that of 4,096 reads
+ * and writes.
+ */
+lxr_code lxr_trim_next(lxr_heap *heap, uint32_t from, uint32_t *block);
+
+/*
+ * And this writes where the first word of block 0 lies, until the heap is closed. Each further block lies LXR_BLOCK_WORDS words after the one before
+ * it. What stands there is the library's own, and no host reads or writes it: all that may be done is that whole pages go back to the system in
+ * blocks which lxr_trim_next has told, before any other call, and in such a way that zeros are found there again.
+ * Codes: LXR_E_NO_HEAP; LXR_E_NOTHING, where nothing was ever written there. Cost: constant.
+ */
+lxr_code lxr_first_word(lxr_heap *heap, const uint64_t **place);
+
+/*
+ * Does up to so many `units` of what the next plain pause would do first, so that less is left to it: in the host's idle time, say. `*more` becomes 1
+ * where all units were done and something still waits, and else 0: then there is nothing further to do before the next pause. A unit lowers the count
+ * of one object by 1, where a reference to it was overwritten, or its owner died, before the last pause; where the count falls to 0 the object is
+ * reclaimed, and what it refers to waits to be lowered. It takes no memory: what waits has place in a list of the heap's, of 1,024 counts and one for
+ * each register. Where a unit would reclaim an object with more references, nil or not, than that has place left for, it isn't done, and all that
+ * still waits is left to the pause: so it is with an array of more than some 20,000 elements. LXR_COUNT_WAITING tells how many counts wait.
+ * Nothing else is to be seen of it until the next pause but that blocks are free and new objects find places sooner: that pause counts as dead what
+ * it would have counted, and until then the body of a large object is kept, and LXR_COUNT_LIVE tells the same.
+ * Code: LXR_E_NO_HEAP. Cost: grows with the units, with the references of the objects that die, and with the number of blocks.
+ */
+lxr_code lxr_work(lxr_heap *heap, uint32_t units, uint32_t *more);
+
+/*
+ * From now on the library does so many units for each 64 bytes of new objects by itself, as of `work` of the settings; 0: none, so that plain pauses
+ * come as soon as they are due, and do all that waits. Small numbers keep lxr_new short, and put off plain pauses; by great ones a slice may be as
+ * long as the pause was.
+ * Codes: LXR_E_NO_HEAP; LXR_E_SIZE, above LXR_MOST_WORK. Cost: constant.
+ */
+lxr_code lxr_set_work(lxr_heap *heap, uint32_t units);
+
 /* What lxr_count tells. */
 #define LXR_COUNT_PAUSES          0u  /* pauses since the heap was opened */
 #define LXR_COUNT_PROMOTED        1u  /* by the last pause: objects made since the pause before that were kept */
@@ -497,6 +558,7 @@ lxr_code lxr_set_grow(lxr_heap *heap, uint32_t hundredths);
 #define LXR_COUNT_FREE_BLOCKS     6u  /* wholly free blocks for objects */
 #define LXR_COUNT_FREE_BODY_BYTES 7u  /* bytes of the free blocks for bodies */
 #define LXR_COUNT_ROOM            13u /* blocks of the room, as the host or the library set it last */
+#define LXR_COUNT_WAITING         14u /* counts that wait to be lowered by lxr_work or the next pause; of heaps for one thread alone */
 
 /*
  * `*number` becomes one of the numbers above.

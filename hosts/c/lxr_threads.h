@@ -76,6 +76,8 @@ typedef struct lxr_pause_times {
  * heap of up to 1,024 blocks the first ones, and in a larger one those with the fewest. What lives in them as the trace ends is copied
  * elsewhere by that pause, which is the longer for it, and they are whole again. By 0 none is, and what is old stays where it is.
  *
+ * By `trace` the helpers walk over all that lives each so many pauses, whatever was used meanwhile: by a small number they do so most of the time, and
+ * by a large one dead cycles wait longer.
  * A trace ends at the first pause at which all that it has to mark is marked, or after `within` pauses: then that pause marks the rest by itself. So
  * by a small number the pauses that end traces grow with what lives; by 0 they find it marked by the helpers. But a trace takes longer then,
  * dead cycles wait for its end, and the pause that ends it clears away so many more.

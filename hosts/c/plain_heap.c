@@ -233,18 +233,23 @@ uint32_t lxr_version(void) { return LXR_VERSION; }
 
 static bool is_block_count(uint32_t blocks) { return blocks >= 1 && blocks <= LXR_MOST_BLOCKS; }
 
-/* The bytes of settings of version 0.2, which end before the registers, and of those that end before the room. */
-enum { FIRST_BYTES = 24, SECOND_BYTES = 32 };
+/* The bytes of settings of version 0.2, which end before the registers, of those that end before the room, and of those that end before the work. */
+enum { FIRST_BYTES = 24, SECOND_BYTES = 32, THIRD_BYTES = 40 };
+
+static bool is_known_size(uint64_t size) {
+    return size == FIRST_BYTES || size == SECOND_BYTES || size == THIRD_BYTES || size == sizeof(lxr_settings);
+}
 
 static uint32_t registers_of(const lxr_settings *settings) {
     return settings->size == FIRST_BYTES || settings->registers == 0 ? LXR_REGISTERS : settings->registers;
 }
 
 static bool are_settings(const lxr_settings *settings) {
-    if (settings->size != FIRST_BYTES && settings->size != SECOND_BYTES && settings->size != sizeof *settings) return false;
+    if (!is_known_size(settings->size)) return false;
     uint32_t many = registers_of(settings);
     if (many < LXR_REGISTERS || many > LXR_MOST_REGISTERS) return false;
-    if (settings->size == sizeof *settings && (settings->room > settings->blocks || settings->grow > LXR_MOST_GROW)) return false;
+    if (settings->size >= THIRD_BYTES && (settings->room > settings->blocks || settings->grow > LXR_MOST_GROW)) return false;
+    if (settings->size == sizeof *settings && settings->work > LXR_MOST_WORK) return false;
     return is_block_count(settings->blocks) && is_block_count(settings->body_blocks);
 }
 
@@ -262,7 +267,7 @@ lxr_code lxr_open(lxr_heap *handle, const lxr_settings *settings) {
     heap->many = registers_of(settings);
     heap->blocks = settings->blocks;
     heap->body_blocks = settings->body_blocks;
-    heap->room = settings->size == sizeof *settings && settings->room ? settings->room : settings->blocks;
+    heap->room = settings->size >= THIRD_BYTES && settings->room ? settings->room : settings->blocks;
     handle->live = 1;
     handle->block = heap;
     return LXR_OK;
@@ -730,6 +735,32 @@ lxr_code lxr_set_grow(lxr_heap *handle, uint32_t hundredths) {
     return hundredths > LXR_MOST_GROW ? LXR_E_SIZE : LXR_OK;
 }
 
+/* It asks for the memory of each object by itself, and has no blocks to give back. */
+lxr_code lxr_trim(lxr_heap *handle) { return heap_of(handle) ? LXR_OK : LXR_E_NO_HEAP; }
+
+lxr_code lxr_trim_next(lxr_heap *handle, uint32_t from, uint32_t *block) {
+    (void)from, (void)block;
+    return heap_of(handle) ? LXR_E_NOTHING : LXR_E_NO_HEAP;
+}
+
+lxr_code lxr_first_word(lxr_heap *handle, const uint64_t **place) {
+    (void)place;
+    return heap_of(handle) ? LXR_E_NOTHING : LXR_E_NO_HEAP;
+}
+
+/* Nothing waits in it. */
+lxr_code lxr_work(lxr_heap *handle, uint32_t units, uint32_t *more) {
+    (void)units;
+    if (!heap_of(handle)) return LXR_E_NO_HEAP;
+    *more = 0;
+    return LXR_OK;
+}
+
+lxr_code lxr_set_work(lxr_heap *handle, uint32_t units) {
+    if (!heap_of(handle)) return LXR_E_NO_HEAP;
+    return units > LXR_MOST_WORK ? LXR_E_SIZE : LXR_OK;
+}
+
 lxr_code lxr_count(const lxr_heap *handle, uint32_t what, uint64_t *number) {
     struct heap *heap = heap_of(handle);
     if (!heap) return LXR_E_NO_HEAP;
@@ -739,7 +770,8 @@ lxr_code lxr_count(const lxr_heap *handle, uint32_t what, uint64_t *number) {
     case LXR_COUNT_LIVE: *number = heap->live; return LXR_OK;
     case LXR_COUNT_DEAD:
     case LXR_COUNT_STUCK:
-    case LXR_COUNT_SWEPT: *number = 0; return LXR_OK;
+    case LXR_COUNT_SWEPT:
+    case LXR_COUNT_WAITING: *number = 0; return LXR_OK;
     case LXR_COUNT_FREE_BLOCKS: *number = heap->blocks - 1; return LXR_OK;
     case LXR_COUNT_ROOM: *number = heap->room; return LXR_OK;
     case LXR_COUNT_FREE_BODY_BYTES: *number = (uint64_t)heap->body_blocks * LXR_BLOCK_WORDS * sizeof(uint64_t); return LXR_OK;

@@ -830,6 +830,19 @@ public:
     /// Each collecting pause sets the room to what it leaves in use and so many hundredths more; 0: none does.
     void set_grow(std::uint32_t hundredths) { detail::done(lxr_set_grow(handle(), hundredths)); }
 
+    /// Memory of blocks that are wholly free goes back to the system: `collect` before it gives most. Nothing else that can be told changes.
+    void trim() { detail::done(lxr_trim(handle())); }
+
+    /// Does up to so many units of what waits for the next plain pause: in idle time, say. Whether there is more to do before that.
+    bool work(std::uint32_t units) {
+        std::uint32_t more = 0;
+        detail::done(lxr_work(handle(), units, &more));
+        return more != 0;
+    }
+
+    /// So many units are done by itself for each 64 bytes of new objects; 0: none.
+    void set_work(std::uint32_t units) { detail::done(lxr_set_work(handle(), units)); }
+
     [[nodiscard]] std::uint64_t pauses() const { return count(LXR_COUNT_PAUSES); }
     [[nodiscard]] std::uint64_t promoted() const { return count(LXR_COUNT_PROMOTED); }
     [[nodiscard]] std::uint64_t dead() const { return count(LXR_COUNT_DEAD); }
@@ -839,6 +852,7 @@ public:
     [[nodiscard]] std::uint64_t free_blocks() const { return count(LXR_COUNT_FREE_BLOCKS); }
     [[nodiscard]] std::uint64_t free_body_bytes() const { return count(LXR_COUNT_FREE_BODY_BYTES); }
     [[nodiscard]] std::uint64_t room() const { return count(LXR_COUNT_ROOM); }
+    [[nodiscard]] std::uint64_t waiting() const { return count(LXR_COUNT_WAITING); }
 
 private:
     friend class batch;

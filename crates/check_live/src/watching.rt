@@ -1,10 +1,14 @@
 //! What is seen of pauses: their reports, and behind which of them each `new` that waited was served.
-use lxr_graph::{Item, Items, Kind};
+ghost use Rattle.std.specs.Prelude.{IfOk, IsTrue};
+ghost use Rattle.lxr_graph.specs.History.{HasToldNames};
+
+use lxr_graph::{Counts, Item, Items, Kind, Names, Report};
 use lxr_image::Space;
+use lxr_judge_sets::NameSet;
 use lxr_sights::Watch;
 use lxr_text_print::print_pause;
-use lxr_text_stream::Plenty;
-use std::alloc::Global;
+use lxr_text_stream::{Plenty, WriteError};
+use std::alloc::{AllocError, Global};
 
 /// A pause, and how many `new`s were served before it and behind it, counted from the first pause on.
 #[derive(Clone, Copy)]
@@ -42,6 +46,30 @@ impl Serving {
         self.left -= 1;
         true
     }
+}
+
+/// The names of a list, in order.
+fn listed(alloc: Global, names: &Names) -> Result<Names, AllocError>
+    ensures { IfOk result (λ list. IsTrue list.listed) }
+{
+    let set = NameSet::of(alloc, names.found())?;
+    Ok(set.in_order().into_names())
+}
+
+/// The report of a pause with its names listed, which nobody has done then, and without counts.
+fn listed_report(alloc: Global, report: &Report) -> Result<Report, AllocError>
+    ensures { IfOk result HasToldNames }
+{
+    Ok(Report {
+        number: report.number,
+        kind: report.kind,
+        promoted: listed(alloc, &report.promoted)?,
+        dead: listed(alloc, &report.dead)?,
+        stuck: listed(alloc, &report.stuck)?,
+        swept: listed(alloc, &report.swept)?,
+        counts: report.counts.same(),
+        told: Counts::new(alloc),
+    })
 }
 
 /// A watch that prints the reports of pauses, without counts, which nobody has told then, and notes what it sees of those of one call.
@@ -138,6 +166,15 @@ impl Watching {
         }
     }
 
+    /// Prints the report of a pause.
+    fn print(&mut self, report: &Report) -> Result<(), WriteError> {
+        let alloc = *self.pauses.allocator();
+        match listed_report(alloc, report) {
+            Ok(listed) => print_pause(&listed, false, &mut self.reports),
+            Err(AllocError) => Err(WriteError::Memory),
+        }
+    }
+
     /// Sees a space after a pause.
     fn see_behind(&mut self, space: &Space) {
         self.moved = space.tally.moved;
@@ -145,7 +182,7 @@ impl Watching {
             last.behind = space.tally.news;
             last.collects = matches!(space.report.kind, Kind::Collect);
         }
-        if print_pause(&space.report, false, &mut self.reports).is_err() {
+        if self.print(&space.report).is_err() {
             self.is_lost = true;
         }
     }

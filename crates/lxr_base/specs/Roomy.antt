@@ -11,6 +11,10 @@ pub record Roomy (T : Type 0) : Type 0 where
 abbrev pub pushed : {T : Type 0} → Roomy T → T → Roomy T
 pushed l x = record l { items = l.items ++ x ∷ [] }
 
+-- the list with these items more at its end, in the same room
+abbrev pub extended : {T : Type 0} → Roomy T → List T → Roomy T
+extended l xs = record l { items = l.items ++ xs }
+
 -- no items, in the same room
 abbrev pub emptied : {T : Type 0} → Roomy T → Roomy T
 emptied l = record l { items = [] }

@@ -62,4 +62,13 @@ impl<T> Chronicle<T> {
             marker: PhantomData,
         }
     }
+    /// With the items of another such list behind them.
+    #[inline(always)]
+    pub fn and_all(&self, _other: &Chronicle<T>) -> Chronicle<T>
+        ensures { result.items ≡ self.now.items ++ _other.now.items }
+    {
+        Chronicle {
+            marker: PhantomData,
+        }
+    }
 }

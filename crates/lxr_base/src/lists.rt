@@ -2,9 +2,9 @@
 //!
 //! A collector takes its memory before the first operation and none in a pause. So its lists are made with their
 //! room, and contracts see, beside the items, how many items a list can hold without taking memory.
-ghost use Rattle.std.specs.Prelude.{◌≡◌, ◌<◌, ◌≤◌, ◌↔◌, [], IfOk, IsTrue, MatchOption, OnErr, OnOk, length, slice_get, slice_set};
+ghost use Rattle.std.specs.Prelude.{◌≡◌, ◌+◌, ◌<◌, ◌≤◌, ◌↔◌, [], IfOk, IsTrue, MatchOption, OnErr, OnOk, length, slice_get, slice_set};
 ghost use Rattle.std.specs.List.Sorted.{IsPermutation, IsSortedByClosure};
-ghost use Rattle.lxr_base.specs.Roomy.{emptied, pushed, turned};
+ghost use Rattle.lxr_base.specs.Roomy.{emptied, extended, pushed, turned};
 
 use std::alloc::{AllocError, Global};
 use std::cmp::Ordering;
@@ -85,6 +85,29 @@ impl<T> Listed<T> {
         ensures { self.new ≡ pushed self.old item }
     {
         self.items.push_reserved(item);
+    }
+
+    /// Adds items at the end, in their order, in the room that there is.
+    pub fn extend_from(&mut self, items: &[T])
+    where
+        T: Copy,
+        requires { length self.old.items + length items.now ≤ self.old.room }
+        ensures { self.new ≡ extended self.old items.now }
+    {
+        for item in items {
+            self.push(*item);
+        }
+    }
+
+    /// Puts items in place of those that there are, in the room that there is.
+    pub fn copy_from(&mut self, items: &[T])
+    where
+        T: Copy + Drop,
+        requires { length items.now ≤ self.old.room }
+        ensures { self.new ≡ record self.old { items = items.now } }
+    {
+        self.clear();
+        self.extend_from(items);
     }
 
     /// Adds an item at the end, and takes memory where there is no room.

@@ -8,6 +8,7 @@
 
 mod arrays;
 mod passes;
+mod trimming;
 
 ghost use Rattle.std.specs.Prelude.{◌≡◌, ℕ, Bool, true, false, List, [], ◌∷◌, Option, OnErr, Result, option_map};
 ghost use Rattle.lxr_layout.specs.declared.Shape.{Shape as ShapeOf};
@@ -15,7 +16,7 @@ ghost use Rattle.lxr_heap.specs.declared.bulk.BodyReply.{BodyReply as BodyReplyO
 ghost use Rattle.lxr_c_base.specs.Codes.{Answer, answered as is_answered, code_in, flag as is_flag, number_of, told, written_over};
 ghost use Rattle.lxr_c_base.specs.Requests as asking;
 ghost use Rattle.lxr_c_base.specs.declared.codes.Code.{Code as CodeOf};
-ghost use Rattle.lxr_c_heap.specs.Calling.{AsksPause, Calls, Closes, Opens, Sets, SetsGrow, SetsPace, SetsRoom};
+ghost use Rattle.lxr_c_heap.specs.Calling.{AsksPause, AsksWork, Calls, Closes, Opens, Sets, SetsGrow, SetsPace, SetsRoom, SetsWork};
 ghost use Rattle.lxr_c_heap.specs.Hosting.{Makes, Replies, Stores};
 ghost use Rattle.lxr_c_heap.specs.Keeping.{registers_kept};
 ghost use Rattle.lxr_c_heap.specs.Looking as looking;
@@ -361,6 +362,29 @@ pub extern "C" fn lxr_set_grow(heap: &mut Handle, grow: u32) -> u32
     ensures { (answer : CodeOf) × Sets (SetsGrow grow) heap.old.block.value heap.new.block.value answer × (result ≡ number_of answer) }
 {
     heap.set_grow(grow).number()
+}
+
+/// From now on it does so many units of what waits for the next pause for each 64 bytes of new objects; 0: none.
+#[unsafe(no_mangle)]
+pub extern "C" fn lxr_set_work(heap: &mut Handle, units: u32) -> u32
+    ensures { (answer : CodeOf) × Sets (SetsWork units) heap.old.block.value heap.new.block.value answer × (result ≡ number_of answer) }
+{
+    heap.set_work(units).number()
+}
+
+/// Does up to so many units of what waits for the next pause, and writes to `more` 1 where slices have more to do, and else 0.
+#[unsafe(no_mangle)]
+pub extern "C" fn lxr_work(heap: &mut Handle, units: u32, more: &mut u32) -> u32
+    ensures { (answer : Result Bool CodeOf) × AsksWork heap.old.block.value heap.new.block.value units answer
+        × (result ≡ number_of (code_in answer)) × (more.new ≡ written_over more.old (told is_flag answer)) }
+{
+    match heap.work(units) {
+        Err(code) => code.number(),
+        Ok(left) => {
+            *more = flag(left);
+            Code::Done.number()
+        }
+    }
 }
 
 /// Writes to `is_nil` 1 where register `source` is nil, and else 0.

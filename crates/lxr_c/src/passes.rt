@@ -77,23 +77,18 @@ pub extern "C" fn lxr_passes_resume(alloc: Global, heap: &mut Holder) -> u32
 
 /// Closes the epoch and makes a pause, where one is wanted.
 #[unsafe(no_mangle)]
-pub extern "C" fn lxr_passes_pause(alloc: Global, heap: &mut Holder) -> u32
+pub extern "C" fn lxr_passes_pause(heap: &mut Holder) -> u32
     ensures { (answer : CodeOf) × At CodeOf.NoHeap PausesHeap heap.old.held.value heap.new.held.value answer × (result ≡ number_of answer) }
 {
-    heap.pause(alloc).number()
+    heap.pause().number()
 }
 
 /// Writes what `what` counts of the last pause.
 #[unsafe(no_mangle)]
-pub extern "C" fn lxr_passes_count(
-    alloc: Global,
-    heap: &mut Holder,
-    what: u32,
-    number: &mut u64,
-) -> u32
+pub extern "C" fn lxr_passes_count(heap: &mut Holder, what: u32, number: &mut u64) -> u32
     ensures { (answer : Result ℕ CodeOf) × At (Err CodeOf.NoHeap) (CountsPause what) heap.old.held.value heap.new.held.value answer × (result ≡ number_of (code_in answer)) × (number.new ≡ written_over number.old (told (λ n. n) answer)) }
 {
-    match heap.count_pause(alloc, what) {
+    match heap.count_pause(what) {
         Ok(count) => {
             *number = count;
             Code::Done.number()
@@ -117,10 +112,10 @@ pub extern "C" fn lxr_station_leave(
 
 /// Brings the station's pass home.
 #[unsafe(no_mangle)]
-pub extern "C" fn lxr_station_come_home(alloc: Global, station: &mut Holder) -> u32
+pub extern "C" fn lxr_station_come_home(station: &mut Holder) -> u32
     ensures { (answer : CodeOf) × At CodeOf.NoHeap ComesHome station.old.held.value station.new.held.value answer × (result ≡ number_of answer) }
 {
-    station.come_home(alloc).number()
+    station.come_home().number()
 }
 
 /// Ends the station; its pass comes home.
@@ -133,81 +128,53 @@ pub extern "C" fn lxr_station_close(alloc: Global, station: &mut Holder) -> u32
 
 /// Writes whether a pause is wanted.
 #[unsafe(no_mangle)]
-pub extern "C" fn lxr_station_wants_pause(
-    alloc: Global,
-    station: &mut Holder,
-    wants: &mut u32,
-) -> u32
+pub extern "C" fn lxr_station_wants_pause(station: &mut Holder, wants: &mut u32) -> u32
     ensures { (answer : Result Bool CodeOf) × At (Err CodeOf.NoHeap) SeesWanted station.old.held.value station.new.held.value answer × (result ≡ number_of (code_in answer)) × (wants.new ≡ written_over wants.old (told flag answer)) }
 {
-    tell_test(station.wants_pause(alloc), wants)
+    tell_test(station.wants_pause(), wants)
 }
 
 /// Does up to so many units of a helper's work, and writes whether each found some.
 #[unsafe(no_mangle)]
-pub extern "C" fn lxr_station_help(
-    alloc: Global,
-    station: &mut Holder,
-    units: u32,
-    more: &mut u32,
-) -> u32
+pub extern "C" fn lxr_station_help(station: &mut Holder, units: u32, more: &mut u32) -> u32
     ensures { (answer : Result Bool CodeOf) × At (Err CodeOf.NoHeap) (HelpsBy units) station.old.held.value station.new.held.value answer × (result ≡ number_of (code_in answer)) × (more.new ≡ written_over more.old (told flag answer)) }
 {
-    tell_test(station.help(alloc, units), more)
+    tell_test(station.help(units), more)
 }
 
 /// Register `dest` gets a new object.
 #[unsafe(no_mangle)]
-pub extern "C" fn lxr_station_new(
-    alloc: Global,
-    station: &mut Holder,
-    dest: u32,
-    refs: u32,
-    words: u32,
-) -> u32
+pub extern "C" fn lxr_station_new(station: &mut Holder, dest: u32, refs: u32, words: u32) -> u32
     ensures { OrdersBy (is_small_of (asking.new (registers_in station.old.held.value) dest refs words)) station.old.held.value station.new.held.value result }
 {
-    let registers = station.registers(alloc);
+    let registers = station.registers();
     let request = small_of(requests::new(registers, dest, refs, words));
-    station.operate(alloc, request).code.number()
+    station.operate(request).code.number()
 }
 
 /// Register `dest` gets reference `index` of what `base` holds.
 #[unsafe(no_mangle)]
-pub extern "C" fn lxr_station_load(
-    alloc: Global,
-    station: &mut Holder,
-    dest: u32,
-    base: u32,
-    index: u32,
-) -> u32
+pub extern "C" fn lxr_station_load(station: &mut Holder, dest: u32, base: u32, index: u32) -> u32
     ensures { OrdersBy (is_small_of (asking.load (registers_in station.old.held.value) dest base index)) station.old.held.value station.new.held.value result }
 {
-    let registers = station.registers(alloc);
+    let registers = station.registers();
     let request = small_of(requests::load(registers, dest, base, index));
-    station.operate(alloc, request).code.number()
+    station.operate(request).code.number()
 }
 
 /// Reference `index` of what `base` holds becomes what `source` holds.
 #[unsafe(no_mangle)]
-pub extern "C" fn lxr_station_store(
-    alloc: Global,
-    station: &mut Holder,
-    base: u32,
-    index: u32,
-    source: u32,
-) -> u32
+pub extern "C" fn lxr_station_store(station: &mut Holder, base: u32, index: u32, source: u32) -> u32
     ensures { OrdersBy (is_small_of (asking.store (registers_in station.old.held.value) base index source)) station.old.held.value station.new.held.value result }
 {
-    let registers = station.registers(alloc);
+    let registers = station.registers();
     let request = small_of(requests::set_reference(registers, base, index, source));
-    station.operate(alloc, request).code.number()
+    station.operate(request).code.number()
 }
 
 /// Reference `index` of what `base` holds becomes what `source` holds, and `dest` gets what it was.
 #[unsafe(no_mangle)]
 pub extern "C" fn lxr_station_swap(
-    alloc: Global,
     station: &mut Holder,
     dest: u32,
     base: u32,
@@ -216,15 +183,14 @@ pub extern "C" fn lxr_station_swap(
 ) -> u32
     ensures { OrdersBy (asking.swap (registers_in station.old.held.value) dest base index source) station.old.held.value station.new.held.value result }
 {
-    let registers = station.registers(alloc);
+    let registers = station.registers();
     let request = requests::swap(registers, dest, base, index, source);
-    station.operate(alloc, request).code.number()
+    station.operate(request).code.number()
 }
 
 /// Reads data word `index` of what `base` holds.
 #[unsafe(no_mangle)]
 pub extern "C" fn lxr_station_get(
-    alloc: Global,
     station: &mut Holder,
     base: u32,
     index: u32,
@@ -232,31 +198,24 @@ pub extern "C" fn lxr_station_get(
 ) -> u32
     ensures { TellsBy (λ told. told.word) (is_small_of (asking.get (registers_in station.old.held.value) base index)) station.old.held.value station.new.held.value result word.old word.new }
 {
-    let registers = station.registers(alloc);
+    let registers = station.registers();
     let request = small_of(requests::get(registers, base, index));
-    tell(station.operate(alloc, request), word)
+    tell(station.operate(request), word)
 }
 
 /// Data word `index` of what `base` holds becomes `word`.
 #[unsafe(no_mangle)]
-pub extern "C" fn lxr_station_put(
-    alloc: Global,
-    station: &mut Holder,
-    base: u32,
-    index: u32,
-    word: u64,
-) -> u32
+pub extern "C" fn lxr_station_put(station: &mut Holder, base: u32, index: u32, word: u64) -> u32
     ensures { OrdersBy (is_small_of (asking.put (registers_in station.old.held.value) base index word)) station.old.held.value station.new.held.value result }
 {
-    let registers = station.registers(alloc);
+    let registers = station.registers();
     let request = small_of(requests::put(registers, base, index, word));
-    station.operate(alloc, request).code.number()
+    station.operate(request).code.number()
 }
 
 /// Adds `word` to data word `index` of what `base` holds, and writes what it was.
 #[unsafe(no_mangle)]
 pub extern "C" fn lxr_station_add(
-    alloc: Global,
     station: &mut Holder,
     base: u32,
     index: u32,
@@ -265,15 +224,14 @@ pub extern "C" fn lxr_station_add(
 ) -> u32
     ensures { TellsBy (λ told. told.word) (asking.add (registers_in station.old.held.value) base index word) station.old.held.value station.new.held.value result old.old old.new }
 {
-    let registers = station.registers(alloc);
+    let registers = station.registers();
     let request = requests::add(registers, base, index, word);
-    tell(station.operate(alloc, request), old)
+    tell(station.operate(request), old)
 }
 
 /// Writes whether two registers are nil or hold one object.
 #[unsafe(no_mangle)]
 pub extern "C" fn lxr_station_same(
-    alloc: Global,
     station: &mut Holder,
     left: u32,
     right: u32,
@@ -281,56 +239,51 @@ pub extern "C" fn lxr_station_same(
 ) -> u32
     ensures { TellsBy (λ told. option_map flag_of told.word) (is_small_of (asking.same (registers_in station.old.held.value) left right)) station.old.held.value station.new.held.value result same.old same.new }
 {
-    let registers = station.registers(alloc);
+    let registers = station.registers();
     let request = small_of(requests::same(registers, left, right));
-    tell_flag(station.operate(alloc, request), same)
+    tell_flag(station.operate(request), same)
 }
 
 /// Register `dest` gets what `source` holds.
 #[unsafe(no_mangle)]
-pub extern "C" fn lxr_station_move(
-    alloc: Global,
-    station: &mut Holder,
-    dest: u32,
-    source: u32,
-) -> u32
+pub extern "C" fn lxr_station_move(station: &mut Holder, dest: u32, source: u32) -> u32
     ensures { OrdersBy (is_small_of (asking.copy (registers_in station.old.held.value) dest source)) station.old.held.value station.new.held.value result }
 {
-    let registers = station.registers(alloc);
+    let registers = station.registers();
     let request = small_of(requests::copy(registers, dest, source));
-    station.operate(alloc, request).code.number()
+    station.operate(request).code.number()
 }
 
 /// Register `dest` becomes nil.
 #[unsafe(no_mangle)]
-pub extern "C" fn lxr_station_nil(alloc: Global, station: &mut Holder, dest: u32) -> u32
+pub extern "C" fn lxr_station_nil(station: &mut Holder, dest: u32) -> u32
     ensures { OrdersBy (is_small_of (asking.nil (registers_in station.old.held.value) dest)) station.old.held.value station.new.held.value result }
 {
-    let registers = station.registers(alloc);
+    let registers = station.registers();
     let request = small_of(requests::nil(registers, dest));
-    station.operate(alloc, request).code.number()
+    station.operate(request).code.number()
 }
 
 /// Asks for a pause.
 #[unsafe(no_mangle)]
-pub extern "C" fn lxr_station_ask_pause(alloc: Global, station: &mut Holder) -> u32
+pub extern "C" fn lxr_station_ask_pause(station: &mut Holder) -> u32
     ensures { OrdersBy (Ok op.Pause) station.old.held.value station.new.held.value result }
 {
-    station.operate(alloc, Ok(Op::Pause)).code.number()
+    station.operate(Ok(Op::Pause)).code.number()
 }
 
 /// Asks for a collecting pause.
 #[unsafe(no_mangle)]
-pub extern "C" fn lxr_station_ask_collect(alloc: Global, station: &mut Holder) -> u32
+pub extern "C" fn lxr_station_ask_collect(station: &mut Holder) -> u32
     ensures { OrdersBy (Ok op.Collect) station.old.held.value station.new.held.value result }
 {
-    station.operate(alloc, Ok(Op::Collect)).code.number()
+    station.operate(Ok(Op::Collect)).code.number()
 }
 
 /// The code of the operation that was ordered last, which goes on where it waited; writes the word that it tells.
 #[unsafe(no_mangle)]
-pub extern "C" fn lxr_station_answer(alloc: Global, station: &mut Holder, word: &mut u64) -> u32
+pub extern "C" fn lxr_station_answer(station: &mut Holder, word: &mut u64) -> u32
     ensures { (answer : ToldOf) × At (only CodeOf.NoHeap) Answers station.old.held.value station.new.held.value answer × (result ≡ number_of answer.code) × (word.new ≡ written_over word.old answer.word) }
 {
-    tell(station.answer(alloc), word)
+    tell(station.answer(), word)
 }

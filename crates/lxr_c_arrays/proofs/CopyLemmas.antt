@@ -138,26 +138,26 @@ copy_one registers at first n own Written Left More Less pair s u b w v fits bey
 -- ---- rounds
 
 -- the elements that so many rounds have written to, and the others
-abbrev Written : Bool → ℕ → ℕ → ℕ → ℕ → Type 0
+abbrev pub Written : Bool → ℕ → ℕ → ℕ → ℕ → Type 0
 Written true at count n i = (at + count ≤ i + n) × (i < at + count)
 Written false at count n i = (at ≤ i) × (i < at + n)
 
-abbrev Left : Bool → ℕ → ℕ → ℕ → ℕ → Type 0
+abbrev pub Left : Bool → ℕ → ℕ → ℕ → ℕ → Type 0
 Left true at count n i = (i + n < at + count) ⊎ (at + count ≤ i)
 Left false at count n i = (i < at) ⊎ (at + n ≤ i)
 
-written_before : (up : Bool) (at count n i : ℕ) → n < count → Written up at count (suc n) i → i ≢ at + round_of up count n → Written up at count n i
+pub written_before : (up : Bool) (at count n i : ℕ) → n < count → Written up at count (suc n) i → i ≢ at + round_of up count n → Written up at count n i
 written_before true at count n i less (low, high) differs = (omega (arith, less, low, high, differs), high)
 written_before false at count n i less (low, high) differs = (low, omega (arith, less, low, high, differs))
 
-left_before : (up : Bool) (at count n i : ℕ) → n < count → Left up at count (suc n) i → (i ≢ at + round_of up count n) × Left up at count n i
+pub left_before : (up : Bool) (at count n i : ℕ) → n < count → Left up at count (suc n) i → (i ≢ at + round_of up count n) × Left up at count n i
 left_before true at count n i less (inl low) = ((λ e. omega (arith, less, low, e)), inl (omega (arith, less, low)))
 left_before true at count n i less (inr high) = ((λ e. omega (arith, less, high, e)), inr high)
 left_before false at count n i less (inl low) = ((λ e. omega (arith, less, low, e)), inl low)
 left_before false at count n i less (inr high) = ((λ e. omega (arith, less, high, e)), inr (omega (arith, less, high)))
 
 -- the next element to be copied isn't written to
-source_left : (up : Bool) (at first count n : ℕ) → nat_lt first at ≡ up → n < count → Left up at count n (first + round_of up count n)
+pub source_left : (up : Bool) (at first count n : ℕ) → nat_lt first at ≡ up → n < count → Left up at count n (first + round_of up count n)
 source_left true at first count n is less = let before = ltb-true first at is in inl (omega (arith, before, less))
 source_left false at first count n is less = let behind = ltb-false first at is in inr (omega (arith, behind, less))
 
@@ -213,11 +213,11 @@ module _ (registers at first count own : ℕ) (pair : Pair) (fits : IsPair regis
 
 -- ---- the call
 
-all_written : (up : Bool) (at count i : ℕ) → i < count → Written up at count count (at + i)
+pub all_written : (up : Bool) (at count i : ℕ) → i < count → Written up at count count (at + i)
 all_written true at count i less = (omega arith, omega (arith, less))
 all_written false at count i less = (omega arith, omega (arith, less))
 
-none_else : (up : Bool) (at count i : ℕ) → (i < at) ⊎ (at + count ≤ i) → Left up at count count i
+pub none_else : (up : Bool) (at count i : ℕ) → (i < at) ⊎ (at + count ≤ i) → Left up at count count i
 none_else true at count i (inl low) = inl (omega (arith, low))
 none_else true at count i (inr high) = inr high
 none_else false at count i (inl low) = inl low

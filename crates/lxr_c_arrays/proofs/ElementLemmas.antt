@@ -106,7 +106,7 @@ other_register s dest other v apart =
 
 -- registers of a host are among all there are
 pub few_registers : (x : HostHeap) (h : List LargeItem) → IsHostOf x h → (registers_in x ≤ all_registers_in x) × (all_registers_in x ≤ REGISTERS)
-few_registers x h is = (is.named.1, is.heap.rests.safepoint.holds.space.limits.registers.1)
+few_registers x h is = (is.named.1, is.heap.stands.0.safepoint.holds.space.limits.registers.1)
 
 -- ---- elements
 

@@ -7,16 +7,20 @@ use Rattle.lxr_layout.specs.declared.TheConstants.{REGISTERS}
 use Rattle.lxr_graph.specs.declared.Op.TheVariants as op
 use Rattle.lxr_graph.specs.State.{next_name, register_at, register_index, with_new}
 use Rattle.lxr_graph.specs.Step.{cleared, fresh, get_from}
+use Rattle.lxr_pause_decrements.specs.declared.slices.Slice.{Slice}
 use Rattle.lxr_large_model.specs.declared.LargeOp.{LargeOp}
 use Rattle.lxr_large_model.specs.declared.LargeOp.TheVariants as large_op
 use Rattle.lxr_large_model.specs.declared.LargeReply.{LargeReply}
 use Rattle.lxr_large_model.specs.declared.LargeReply.TheVariants as large_reply
-use Rattle.lxr_large_model.specs.History.{LargeItem, large_state}
+use Rattle.lxr_large_model.specs.History.{LargeItem, Called, Paused, Renewed, large_state}
 use Rattle.lxr_large_model.specs.State.{body_of, handle}
 use Rattle.lxr_large_model.specs.Step.{large_after, put_at, put_to, word_in}
 use Rattle.lxr_large_model.specs.Full.{LargeTerms}
 use Rattle.lxr_heap.specs.declared.heap.Heap.{Heap}
 use Rattle.lxr_heap.specs.Acting.{MayBeCalled}
+use Rattle.lxr_heap.specs.declared.bulk.BodyReply.{BodyReply}
+use Rattle.lxr_heap.specs.declared.bulk.BodyReply.TheVariants as body_reply
+use Rattle.lxr_heap.specs.Bulk.{WritesWords, with_puts, with_written}
 use Rattle.lxr_heap.specs.Holding.{IsHeapOf}
 use Rattle.lxr_c_base.specs.declared.codes.Code.{Code}
 use Rattle.lxr_c_base.specs.declared.codes.Code.TheVariants as code
@@ -26,16 +30,19 @@ use Rattle.lxr_c_heap.specs.declared.host.TheConstants.{ENDS}
 use Rattle.lxr_c_heap.specs.declared.own.OwnRegisters.{OwnRegisters}
 use Rattle.lxr_c_heap.specs.declared.settings.Settings.{Settings}
 use Rattle.lxr_c_heap.specs.declared.settings.TheConstants.{OWN_REGISTERS}
-use Rattle.lxr_c_heap.specs.Hosting.{IsHostOf, IsOpened, PausesAsked, all_registers_in, behind_pause, own_in, registers_in}
+use Rattle.lxr_c_heap.specs.Hosting.{IsHostOf, IsOpened, Pauses, Settles, all_registers_in, behind_pause, own_in, registers_in}
 use Rattle.lxr_c_heap.specs.Settings.{AreSettings, registers_of, with_own}
+use Rattle.lxr_c_heap.specs.Trimming.{TrimsHost}
+use Rattle.lxr_c_heap.specs.Working.{Works}
 use Rattle.lxr_c_heap.proofs.OperationLemmas.{making_may, quiet_may}
-use Rattle.lxr_c_heap.proofs.PacingLemmas.{paused_host}
-use Rattle.lxr_c_heap.proofs.RegisterLemmas.{asked_keeps, settled_all, where_all}
+use Rattle.lxr_c_heap.proofs.PacingLemmas.{paused_host, replied_host, written_bytes}
+use Rattle.lxr_c_heap.proofs.RegisterLemmas.{paused_keeps, replied_all, replied_keeps, settled_all, settled_keeps, where_all}
 use Rattle.lxr_c_heap.proofs.RoomLemmas.{settled_holds}
 use Rattle.lxr_c_many.specs.declared.applying.Told.{Told}
 use Rattle.lxr_c_many.specs.declared.asked.Asked.{Asked}
 use Rattle.lxr_c_many.specs.declared.asked.Asked.TheVariants as asked
 use Rattle.lxr_c_many.specs.Applying.{MayBeAsked, Performs}
+use Rattle.lxr_c_many.specs.Following.{Follows}
 use Rattle.lxr_c_many.proofs.ApplyLemmas.{performs_host}
 use Rattle.lxr_c_arrays.specs.declared.making.NewArray.{NewArray}
 use Rattle.lxr_c_arrays.specs.declared.registers.Pair.{Pair}
@@ -43,13 +50,14 @@ use Rattle.lxr_c_arrays.specs.declared.side.Side.{Side}
 use Rattle.lxr_c_arrays.specs.declared.side.TheConstants.{PART}
 use Rattle.lxr_c_arrays.specs.Elements.{as_named}
 use Rattle.lxr_c_arrays.specs.Operations.{new_of}
-use Rattle.lxr_c_arrays.specs.Own.{IsPlanned, KeepNil, OwnStayNil, asked as by_asking, carried as by_plan, copies, fills, loads, makes, opened as at_opening, paused as by_pause, set as by_setting, stores}
+use Rattle.lxr_c_arrays.specs.Own.{AllMayBeCalled, IsPlanned, KeepNil, OwnStayNil, asked as by_asking, carried as by_plan, copies, fills, followed as by_following, loads, makes, opened as at_opening, paused as by_pause, set as by_setting, settled as by_settling, stores, trimmed as by_trim, worked as by_work, written as by_writing}
 use Rattle.lxr_c_arrays.specs.Plans.{copy_by, copying, copying_of, filling, first_own, loading, making, own_nil, parts_plan, planned, storing}
 use Rattle.lxr_c_arrays.specs.Running.{Plan, Runs, SameRegisters}
 use Rattle.lxr_c_arrays.specs.Sides.{last_of, range_of, side_of}
 use Rattle.lxr_c_arrays.proofs.ElementLemmas.{few_registers, other_register}
 use Rattle.lxr_c_arrays.proofs.OwnLemmas.{AllSpare, AskedLeavesNil, IsApart, IsNil, IsSideOf, LeavesNil, after_spares, both_ended, filling_spares, loading_spares, nil_named, own_same, performs_nil, performs_same, range_cases, side_cases, side_ended, storing_spares, whole_made}
 use Rattle.lxr_c_arrays.proofs.PlanLemmas.{own_first, own_second, own_there}
+use Rattle.lxr_c_arrays.proofs.RunLemmas.{same_none, same_on}
 use Rattle.lxr_c_arrays.proofs.SettleLemmas.{settling}
 
 -- ---- the opening
@@ -160,22 +168,86 @@ asked_kept x y h k a told is may performs =
     each_kept x y h k is (performs_host x y h k a told is performs) (performs_same x y h k a told performs)
     (λ q more few nil. performs_nil x y h k a told q (asked_leaves (registers_in x) q a may more few) performs nil)
 
-pause_kept : (x y : HostHeap) (h : List LargeItem) (collect : Bool) → IsHostOf x h → (pauses : PausesAsked x y h collect) → KeepNil x h y (behind_pause y pauses.history)
-pause_kept x y h collect is pauses =
-    let settled = settling ENDS x pauses.settled h pauses.history pauses.settles in
-    let middle = settled_holds ENDS x pauses.settled h pauses.history is pauses.settles in
-    let all : all_registers_in y ≡ all_registers_in x =
-    where_all ⊤ collect pauses.settled y pauses.history (behind_pause y pauses.history) (inl (tt, pauses.pauses, refl)) ∙ settled_all ENDS x pauses.settled h pauses.history pauses.settles in
-    each_kept x y h (behind_pause y pauses.history) is (paused_host pauses.settled y pauses.history collect middle pauses.pauses)
-    (record { named = asked_keeps x y h collect pauses; all = all })
+settle_kept : (x y : HostHeap) (h k : List LargeItem) → IsHostOf x h → Settles x h y k → KeepNil x h y k
+settle_kept x y h k is settles =
+    let settled = settling ENDS x y h k settles in
+    each_kept x y h k is (settled_holds ENDS x y h k is settles) (record { named = settled_keeps ENDS x y h k settles; all = settled_all ENDS x y h k settles })
     (λ q more few nil. settled.registers q ∙ ap (as_named settled.names) nil ∙ nil_named settled.names)
 
-set_kept : (x y : HostHeap) (h : List LargeItem) → IsHostOf x h → y.heap ≡ x.heap → y.named ≡ x.named → y.bytes ≡ x.bytes → KeepNil x h y h
-set_kept x y h is heap named bytes =
-    let all : all_registers_in y ≡ all_registers_in x = ap (λ (z : Heap). z.space.limits.registers) heap in
-    each_kept x y h h is
-    (record { heap = subst (λ (z : Heap). IsHeapOf z h) (sym heap) is.heap; bytes = bytes ∙ is.bytes; named = let there = is.named in (omega (arith, named, there), omega (arith, named, all, there)) })
+pause_kept : (x y : HostHeap) (h : List LargeItem) (collect : Bool) → IsHostOf x h → Pauses x y h collect → KeepNil x h y (behind_pause y h)
+pause_kept x y h collect is pauses =
+    each_kept x y h (behind_pause y h) is (paused_host x y h collect is pauses)
+    (record { named = paused_keeps x y h collect pauses; all = where_all ⊤ collect x y h (behind_pause y h) (inl (tt, pauses, refl)) }) (λ q more few nil. nil)
+
+-- operations one after another
+follow_same : (x y : HostHeap) (h new : List LargeItem) → Follows x h y new → SameRegisters x y
+follow_same x y h [] same = subst (SameRegisters x) (sym same) (same_none x)
+follow_same x y h (Called o r ∷ new) (m, before, replies) = same_on x m y (follow_same x m h new before) (record { named = replied_keeps m y (new ++ h) o r replies; all = replied_all m y (new ++ h) o r replies })
+follow_same x y h (Paused report ∷ new) follows = absurd follows
+follow_same x y h (Renewed ns ∷ new) follows = absurd follows
+
+follow_nil : (n q : ℕ) (h new : List LargeItem) → AllMayBeCalled n new → n ≤ q → q < REGISTERS → IsNil (large_state h) q → IsNil (large_state (new ++ h)) q
+follow_nil n q h [] may more few nil = nil
+follow_nil n q h (Called o r ∷ new) (one, may) more few nil = called_leaves n q o one more few (large_state (new ++ h)) r (follow_nil n q h new may more few nil)
+follow_nil n q h (Paused report ∷ new) may more few nil = absurd may
+follow_nil n q h (Renewed ns ∷ new) may more few nil = absurd may
+
+follow_host : (x y : HostHeap) (h new : List LargeItem) → IsHostOf x h → Follows x h y new → IsHostOf y (new ++ h)
+follow_host x y h [] is same = subst (λ (z : HostHeap). IsHostOf z h) (sym same) is
+follow_host x y h (Called o r ∷ new) is (m, before, replies) = replied_host m y (new ++ h) o r (follow_host x m h new is before) replies
+follow_host x y h (Paused report ∷ new) is follows = absurd follows
+follow_host x y h (Renewed ns ∷ new) is follows = absurd follows
+
+follow_kept : (x y : HostHeap) (h new : List LargeItem) → IsHostOf x h → AllMayBeCalled (registers_in x) new → Follows x h y new → KeepNil x h y (new ++ h)
+follow_kept x y h new is may follows =
+    each_kept x y h (new ++ h) is (follow_host x y h new is follows) (follow_same x y h new follows) (λ q more few nil. follow_nil (registers_in x) q h new may more few nil)
+
+-- words of a body
+body_nil : (h : List LargeItem) (base i value q : ℕ) → IsNil (large_state h) q → IsNil (large_after (large_state h) (large_op.BigPut base i value) large_reply.Put) q
+body_nil h base i value q nil = at_held (register_at (large_state h).small 1 base)
+  where
+    word_put : (m : Name) (found : Option ℕ) → IsNil (put_at (large_state h) m i value found).0 q
+    word_put m None = nil
+    word_put m (Some old) = nil
+
+    at_held : (held : Option Name) → IsNil (put_to (large_state h) i value held).0 q
+    at_held None = nil
+    at_held (Some m) = word_put m (word_in (body_of (large_state h).large m) i)
+
+puts_nil : (h : List LargeItem) (base i q : ℕ) (words : List ℕ) → IsNil (large_state h) q → IsNil (large_state (with_puts h base i words)) q
+puts_nil h base i q [] nil = nil
+puts_nil h base i q (w ∷ words) nil = puts_nil (Called (large_op.BigPut base i w) large_reply.Put ∷ h) base (i + 1) q words (body_nil h base i w q nil)
+
+written_nil : (r : BodyReply) (h : List LargeItem) (base i q : ℕ) (words : List ℕ) → IsNil (large_state h) q → IsNil (large_state (with_written r h base i words)) q
+written_nil body_reply.Done h base i q words nil = puts_nil h base i q words nil
+written_nil body_reply.Bad h base i q words nil = nil
+written_nil body_reply.Range h base i q words nil = nil
+
+write_kept : (x y : HostHeap) (h : List LargeItem) (base i : ℕ) (words : List ℕ) (r : BodyReply) → IsHostOf x h → WritesWords x.heap y.heap h base i words r → y ≡ record x { heap = y.heap } → KeepNil x h y (with_written r h base i words)
+write_kept x y h base i words r is writes rest =
+    let named : y.named ≡ x.named = ap (λ (z : HostHeap). z.named) rest in
+    let bytes : y.bytes ≡ x.bytes = ap (λ (z : HostHeap). z.bytes) rest in
+    let all : all_registers_in y ≡ all_registers_in x = ap (λ (t : LargeTerms). t.registers) writes.terms in
+    each_kept x y h (with_written r h base i words) is
+    (record { heap = writes.holds; bytes = bytes ∙ is.bytes ∙ sym (written_bytes r h base i words); named = let there = is.named in (omega (arith, named, there), omega (arith, named, all, there)) })
+    (record { named = named; all = all }) (λ q more few nil. written_nil r h base i q words nil)
+
+-- what leaves the history, the registers and the bytes keeps them nil
+stay : (x y : HostHeap) (h : List LargeItem) → IsHostOf x h → IsHeapOf y.heap h → all_registers_in y ≡ all_registers_in x → y.named ≡ x.named → y.bytes ≡ x.bytes → KeepNil x h y h
+stay x y h is holds all named bytes =
+    each_kept x y h h is (record { heap = holds; bytes = bytes ∙ is.bytes; named = let there = is.named in (omega (arith, named, there), omega (arith, named, all, there)) })
     (record { named = named; all = all }) (λ q more few nil. nil)
+
+set_kept : (x y : HostHeap) (h : List LargeItem) → IsHostOf x h → y.heap ≡ x.heap → y.named ≡ x.named → y.bytes ≡ x.bytes → KeepNil x h y h
+set_kept x y h is heap named bytes = stay x y h is (subst (λ (z : Heap). IsHeapOf z h) (sym heap) is.heap) (ap (λ (z : Heap). z.space.limits.registers) heap) named bytes
+
+work_kept : (x y : HostHeap) (h : List LargeItem) (units : ℕ) (next : Option ℕ) (slice : Slice) → IsHostOf x h → Works x y h units next slice → KeepNil x h y h
+work_kept x y h units next slice is works =
+    stay x y h is works.heap.holds (ap (λ (z : Heap). z.space.limits.registers) works.heap.heap) (ap (λ (z : HostHeap). z.named) works.rest) (ap (λ (z : HostHeap). z.bytes) works.rest)
+
+trim_kept : (x y : HostHeap) (h : List LargeItem) (from : ℕ) (block : Option ℕ) → IsHostOf x h → TrimsHost from x y block → KeepNil x h y h
+trim_kept x y h from block is trims =
+    stay x y h is (trims.heap.holds h is.heap) (ap (λ (z : Heap). z.space.limits.registers) trims.heap.rest) (ap (λ (z : HostHeap). z.named) trims.rest) (ap (λ (z : HostHeap). z.bytes) trims.rest)
 
 -- ---- a plan
 
@@ -245,6 +317,11 @@ own_stay_nil z l (at_opening x s fit is) =
           let some = host.named.0 in (opening_nil own.first (omega (arith, one, some)) (omega (arith, room, few)), opening_nil own.second (omega (arith, two)) (omega (arith, room, few))),
     )
 own_stay_nil z l (by_asking x y h k a told led may performs) = let (is, nil) = own_stay_nil x h led in asked_kept x y h k a told is may performs nil
+own_stay_nil z l (by_settling x y h k led settles) = let (is, nil) = own_stay_nil x h led in settle_kept x y h k is settles nil
 own_stay_nil z l (by_pause x y h collect led pauses) = let (is, nil) = own_stay_nil x h led in pause_kept x y h collect is pauses nil
+own_stay_nil z l (by_following x y h new led may follows) = let (is, nil) = own_stay_nil x h led in follow_kept x y h new is may follows nil
+own_stay_nil z l (by_writing x y h base i words r led writes rest) = let (is, nil) = own_stay_nil x h led in write_kept x y h base i words r is writes rest nil
 own_stay_nil z l (by_setting x y h led heap named bytes) = let (is, nil) = own_stay_nil x h led in set_kept x y h is heap named bytes nil
+own_stay_nil z l (by_work x y h units next slice led works) = let (is, nil) = own_stay_nil x h led in work_kept x y h units next slice is works nil
+own_stay_nil z l (by_trim x y h from block led trims) = let (is, nil) = own_stay_nil x h led in trim_kept x y h from block is trims nil
 own_stay_nil z l (by_plan x m y h j k p told led plans ran ended) = let (is, nil) = own_stay_nil x h led in plan_kept x m y h j k told is p plans ran ended nil

@@ -10,8 +10,11 @@ pub mod StoreLemmas
 pub mod NewLemmas
 pub mod PartLemmas
 pub mod FillLemmas
+pub mod RootFillLemmas
 pub mod CopyLemmas
+pub mod RootCopyLemmas
 pub mod RootLemmas
 pub mod OwnLemmas
+pub mod ReachLemmas
 pub mod LedLemmas
 pub mod KeptLemmas

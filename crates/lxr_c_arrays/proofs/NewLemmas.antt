@@ -1,7 +1,9 @@
 -- A new array of up to 1,023 elements: they are nil.
-use Rattle.std.proofs.Common.{◌≡◌, ◌≢◌, ℕ, ◌<◌, ◌∙◌, refl, sym, ap, subst, arith, cond, inl, inr, Some, None, List, [], ◌∷◌, length}
-use Rattle.std.specs.Prelude.{IsTrue, is_some, min, option_map, replicate, slice_get, unwrap_or, if◌then◌else◌, Ok}
+use Rattle.std.proofs.Common.{◌≡◌, ◌≢◌, ℕ, zero, suc, ◌<◌, ◌∙◌, refl, sym, ap, subst, arith, cond, inl, inr, Option, Some, None, List, [], ◌∷◌, length}
+use Rattle.std.specs.Prelude.{IsTrue, is_some, min, option_map, replicate, slice_get, slice_index_or, unwrap_or, if◌then◌else◌, Ok}
 use Rattle.std.proofs.lemmas.Bool.{le-leb}
+use Rattle.std.proofs.lemmas.List.{get_or_past}
+use Rattle.std.proofs.lemmas.Option.{get_or_from_slice_get, same_Some}
 use Rattle.lxr_layout.specs.declared.Name.{Name}
 use Rattle.lxr_layout.specs.declared.Shape.{Shape}
 use Rattle.lxr_layout.specs.declared.TheConstants.{REGISTERS}
@@ -16,19 +18,19 @@ use Rattle.lxr_large_model.specs.declared.LargeOp.TheVariants as large_op
 use Rattle.lxr_large_model.specs.declared.LargeReply.{LargeReply}
 use Rattle.lxr_large_model.specs.declared.LargeReply.TheVariants as large_reply
 use Rattle.lxr_large_model.specs.Full.{LargeReplies, LargeTerms}
-use Rattle.lxr_large_model.specs.History.{LargeItem, large_moment, large_state}
+use Rattle.lxr_large_model.specs.History.{LargeItem, large_state}
 use Rattle.lxr_large_model.specs.State.{LargeState}
 use Rattle.lxr_large_model.specs.Step.{large_after}
 use Rattle.lxr_heap.specs.declared.heap.Heap.{Heap}
-use Rattle.lxr_heap.specs.Holding.{IsHeapOf, abstract_after, terms_of}
-use Rattle.lxr_core_invariant.proofs.HeldLemmas.{IsHeld, in_register}
+use Rattle.lxr_heap.specs.Holding.{IsHeapOf, abstract_of, terms_of}
+use Rattle.lxr_core_invariant.proofs.HeldLemmas.{IsHeld, in_register, reference_held}
 use Rattle.lxr_heap.proofs.HeapLemmas.{one_thread}
 use Rattle.lxr_heap.proofs.MomentLemmas.{two_rows}
 use Rattle.lxr_c_base.specs.Codes.{code_of}
 use Rattle.lxr_c_base.specs.declared.codes.Code.TheVariants as code
 use Rattle.lxr_c_heap.specs.declared.host.HostHeap.{HostHeap}
 use Rattle.lxr_c_heap.specs.declared.host.TheConstants.{ENDS}
-use Rattle.lxr_c_heap.specs.Hosting.{IsDue, IsHostOf, exceeds_room}
+use Rattle.lxr_c_heap.specs.Hosting.{IsHostOf}
 use Rattle.lxr_c_many.specs.Fields.{references_in, words_in}
 use Rattle.lxr_c_many.specs.declared.applying.Told.{Told}
 use Rattle.lxr_c_many.specs.declared.asked.Asked.{Asked}
@@ -42,10 +44,16 @@ use Rattle.lxr_c_arrays.specs.Running.{Carries, Runs}
 use Rattle.lxr_c_arrays.specs.Sides.{root_length}
 use Rattle.lxr_c_heap.specs.Hosting.{own_in}
 use Rattle.lxr_c_arrays.proofs.ElementLemmas.{changed_register, few_registers, other_register}
-use Rattle.lxr_c_arrays.proofs.SettleLemmas.{Settled, paused_state, settling, where_state}
+use Rattle.lxr_c_arrays.proofs.ReachLemmas.{ReachApart, reached_over}
+use Rattle.lxr_c_arrays.proofs.SettleLemmas.{IsReached, IsReachedBy, Settled, paused_state, settling, turned_state}
 use Rattle.lxr_c_arrays.proofs.StoreLemmas.{unlike, whole_elements}
 
 -- ---- one new object
+
+pub nil_at : (n j : ℕ) → ◌≡◌ {A = Option Name} (slice_index_or (replicate n None) j None) None
+nil_at zero j = get_or_past [] j None (omega arith)
+nil_at (suc n) zero = refl
+nil_at (suc n) (suc j) = nil_at n j
 
 -- an object was made, which the register got
 pub record GotObject (s u : LargeState) (dest : ℕ) (shape : Shape) : Type 0 where
@@ -53,16 +61,27 @@ pub record GotObject (s u : LargeState) (dest : ℕ) (shape : Shape) : Type 0 wh
   pub registers : length s.small.registers ≡ REGISTERS
   pub after : u ≡ record s { small = (make s.small 1 dest (fresh shape) (next_name s.small.graph 1)).0 }
 
--- what registers refer to is there
+-- what registers reach is there
 abbrev pub AreThere : LargeState → Type 0
-AreThere s = (r : ℕ) (n : Name) → register_at s.small 1 r ≡ Some n → HasObject s.small.graph n
+AreThere s = (n : Name) → IsReached s n → HasObject s.small.graph n
 
-held_there : (x : Heap) (h : List LargeItem) → IsHeapOf x h → AreThere (large_state h)
-held_there x h is r n held =
-    let m = large_moment h in
-    let member = subst (IsHeld m) (ap (λ (z : State). register_at z 1 r) is.state ∙ held) (in_register m 1 r is.rests.safepoint.holds.follows) in
-    let (o, found, stands) = is.rests.safepoint.holds.image.image.stands n member in
-    subst (λ q. IsTrue (is_some q)) (sym (sym (ap (λ (z : State). object_at z.graph n) is.state) ∙ found)) refl
+module _ (x : Heap) (h : List LargeItem) (is : IsHeapOf x h) where
+  held_member : (r : ℕ) (n : Name) → register_at (large_state h).small 1 r ≡ Some n → IsHeld (abstract_of x h is.at).moment (Some n)
+  held_member r n held = subst (IsHeld (abstract_of x h is.at).moment) (ap (λ (z : State). register_at z 1 r) is.state ∙ held) (in_register (abstract_of x h is.at).moment 1 r is.stands.0.safepoint.holds.follows)
+
+  member_there : (n : Name) → IsHeld (abstract_of x h is.at).moment (Some n) → HasObject (large_state h).small.graph n
+  member_there n member =
+      let (o, found, stands) = is.stands.0.safepoint.holds.image.image.stands n member in
+      subst (λ q. IsTrue (is_some q)) (sym (sym (ap (λ (z : State). object_at z.graph n) is.state) ∙ found)) refl
+
+  reached_there : AreThere (large_state h)
+  reached_there n (r, inl held) = member_there n (held_member r n held)
+  reached_there n (r, inr (m, i, held, read)) = at_object (object_at (large_state h).small.graph m) refl
+    where
+      at_object : (o : Option Object) → object_at (large_state h).small.graph m ≡ o → HasObject (large_state h).small.graph n
+      at_object None none = absurd (let nowhere : slice_get (refs_of None) i ≡ Some (Some n) = subst (λ o. slice_get (refs_of o) i ≡ Some (Some n)) none read in cc)
+      at_object (Some o) found =
+          member_there n (reference_held (abstract_of x h is.at).moment m o i (Some n) is.stands.0.safepoint.holds.follows (held_member r m held) (ap (λ (z : State). object_at z.graph m) is.state ∙ found) (subst (λ q. slice_get (refs_of q) i ≡ Some (Some n)) found read))
 
 -- success tells of an object
 reply_new : (terms : LargeTerms) (h : List LargeItem) (dest : ℕ) (shape : Shape) (r : LargeReply) → LargeReplies terms h (large_op.Small (op.New dest shape)) r → code_of r ≡ code.Done
@@ -87,7 +106,7 @@ make_first x y h k dest refs values ops is (m, j, t, (r, makes, left, told), inl
     let shape : Shape = record { refs = refs; values = values } in
     let b = makes.acts.history in
     let host = making_host x m h (large_op.Small (op.New dest shape)) r is makes in
-    let two = two_rows makes.acts.middle.heap.space (abstract_after b host.heap.at) host.heap.rests (one_thread makes.acts.middle.heap b host.heap) in
+    let two = two_rows makes.acts.middle.heap.space (abstract_of makes.acts.middle.heap b host.heap.at) host.heap.stands.0 (one_thread makes.acts.middle.heap b host.heap) in
     let same = ap (λ (z : State). length z.graph) host.heap.state in
     let new = reply_new (terms_of m.heap) b dest shape r makes.acts.replies.heap.holds.legal.1.reply (sym (ap (λ (u : Told). u.code) told) ∙ done) in
     record {
@@ -96,10 +115,10 @@ make_first x y h k dest refs values ops is (m, j, t, (r, makes, left, told), inl
       before = large_state b;
       host = performs_host x m h j (new_of dest refs values) t is (r, makes, left, told);
       settled = subst (Settled (large_state h))
-          (sym (paused_state (large_op.Small (op.New dest shape)) makes.paused makes.acts.middle makes.paused_history b makes.acts.pauses
-          ∙ where_state (IsDue makes.settled makes.settled_history) (exceeds_room makes.settled) makes.settled makes.paused makes.settled_history makes.paused_history makes.pauses))
+          (sym (paused_state (large_op.Small (op.New dest shape)) makes.paused makes.acts.middle makes.turns.history b makes.acts.pauses
+          ∙ turned_state makes.settled makes.paused makes.settled_history makes.turns))
           (settling ENDS x makes.settled h makes.settled_history makes.settles);
-      there = held_there makes.acts.middle.heap b host.heap;
+      there = reached_there makes.acts.middle.heap b host.heap;
       made = record {
         rows = omega (arith, two, same);
         registers = all_registers makes.acts.middle.heap b host.heap;
@@ -137,10 +156,22 @@ module _ (s u : LargeState) (dest : ℕ) (shape : Shape) (made : GotObject s u d
   pub old_register : (r : ℕ) → r ≢ dest → register_at u.small 1 r ≡ register_at s.small 1 r
   old_register r apart = ap (λ (z : LargeState). register_at z.small 1 r) made.after ∙ other_register s.small dest r (Some next) apart
 
-  -- but for the new object, which no other register refers to
-  pub new_apart : (r : ℕ) → r ≢ dest → AreThere s → register_at u.small 1 r ≢ Some next
-  new_apart r apart there e =
-      let none : IsTrue (is_some {T = Object} None) = subst (λ o. IsTrue (is_some o)) (next_none s.small.graph 1) (there r next (sym (old_register r apart) ∙ e)) in
+  -- the register reaches the new object alone, and another one what it reached
+  reached_new : (n : Name) → dest < REGISTERS → IsReachedBy u dest n → n ≡ next
+  reached_new n small (inl held) = same_Some n next (sym held ∙ new_held small)
+  reached_new n small (inr (m, i, held, read)) =
+      let root : m ≡ next = same_Some m next (sym held ∙ new_held small) in
+      let nils : slice_get (replicate shape.refs None) i ≡ Some (Some n) = ap (λ o. slice_get (refs_of o) i) (sym new_object) ∙ ap (λ q. slice_get (refs_of (object_at u.small.graph q)) i) (sym root) ∙ read in
+      absurd (let none : Some n ≡ None = sym (get_or_from_slice_get (replicate shape.refs None) i (Some n) None nils) ∙ nil_at shape.refs i in cc)
+
+  pub reached_old : (r : ℕ) (n : Name) → r ≢ dest → AreThere s → IsReachedBy u r n → IsReachedBy s r n
+  reached_old r n apart there = reached_over s u r r n (old_register r apart) (λ m held. ap refs_of (old_object m (there m (r, inl held))))
+
+  -- so they reach nothing in common
+  pub new_apart : dest < REGISTERS → AreThere s → (r : ℕ) → r ≢ dest → ReachApart u r dest
+  new_apart small there r apart n one two =
+      let had : HasObject s.small.graph n = there n (r, reached_old r n apart there one) in
+      let none : IsTrue (is_some {T = Object} None) = subst (λ o. IsTrue (is_some o)) (ap (object_at s.small.graph) (reached_new n small two) ∙ next_none s.small.graph 1) had in
       absurd (cc)
 
 -- ---- a whole array

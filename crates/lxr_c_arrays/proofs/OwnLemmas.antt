@@ -20,7 +20,7 @@ use Rattle.lxr_c_heap.specs.declared.host.HostHeap.{HostHeap}
 use Rattle.lxr_c_heap.specs.declared.host.TheConstants.{ENDS}
 use Rattle.lxr_c_heap.specs.declared.own.OwnRegisters.{OwnRegisters}
 use Rattle.lxr_c_heap.specs.declared.settings.TheConstants.{OWN_REGISTERS}
-use Rattle.lxr_c_heap.specs.Hosting.{IsDue, IsHostOf, all_registers_in, exceeds_room, own_in, registers_in}
+use Rattle.lxr_c_heap.specs.Hosting.{IsHostOf, all_registers_in, own_in, registers_in}
 use Rattle.lxr_c_heap.proofs.RegisterLemmas.{made_all, made_keeps, replied_all, replied_keeps, stored_all, stored_keeps}
 use Rattle.lxr_c_many.specs.declared.applying.Told.{Told}
 use Rattle.lxr_c_many.specs.declared.asked.Asked.{Asked}
@@ -43,7 +43,7 @@ use Rattle.lxr_c_arrays.specs.Sides.{check_steps, checks, entering, last_of, loa
 use Rattle.lxr_c_arrays.proofs.ElementLemmas.{changed_register, few_registers, nil_last, other_register}
 use Rattle.lxr_c_arrays.proofs.PlanLemmas.{own_first, own_second, own_there}
 use Rattle.lxr_c_arrays.proofs.RunLemmas.{runs_host, same_none, same_on}
-use Rattle.lxr_c_arrays.proofs.SettleLemmas.{paused_state, settling, where_state}
+use Rattle.lxr_c_arrays.proofs.SettleLemmas.{paused_state, settling, turned_state}
 
 -- ---- one operation
 
@@ -123,8 +123,8 @@ performs_nil x y h k (asked.Make o) told q leaves (r, makes, left, tells) nil =
     let b = makes.acts.history in
     let settled = settling ENDS x makes.settled h makes.settled_history makes.settles in
     let before : large_state b ≡ large_state makes.settled_history =
-    paused_state o makes.paused makes.acts.middle makes.paused_history b makes.acts.pauses
-    ∙ where_state (IsDue makes.settled makes.settled_history) (exceeds_room makes.settled) makes.settled makes.paused makes.settled_history makes.paused_history makes.pauses in
+    paused_state o makes.paused makes.acts.middle makes.turns.history b makes.acts.pauses
+    ∙ turned_state makes.settled makes.paused makes.settled_history makes.turns in
     ap (λ l. register_at (large_state l).small 1 q) left
     ∙ leaves (large_state b) r (ap (λ (z : LargeState). register_at z.small 1 q) before ∙ settled.registers q ∙ ap (as_named settled.names) nil ∙ nil_named settled.names)
 performs_nil x y h k (asked.Store o) told q leaves (r, stores, left, tells) nil =
@@ -306,7 +306,7 @@ abbrev pub IsApart : Side → ℕ → Type 0
 IsApart (side.Whole array) q = ⊤
 IsApart (side.Parts root part) q = q ≢ part
 
-entering_spares : (a : Side) (enters : Bool) (i q : ℕ) → IsApart a q → AllSpare (entering a enters i) q
+pub entering_spares : (a : Side) (enters : Bool) (i q : ℕ) → IsApart a q → AllSpare (entering a enters i) q
 entering_spares (side.Whole array) true i q apart = tt
 entering_spares (side.Parts root part) true i q apart = (apart, tt)
 entering_spares a false i q apart = tt

@@ -23,6 +23,7 @@ use Rattle.lxr_c_arrays.specs.Running.{Carries, Runs}
 use Rattle.lxr_c_arrays.specs.Sides.{parts_side, root_length, side_by}
 use Rattle.lxr_c_arrays.proofs.ElementLemmas.{changed_register, few_registers, load_first, nil_last, other_register, root_element}
 use Rattle.lxr_c_arrays.proofs.PlanLemmas.{own_first, own_there}
+use Rattle.lxr_c_arrays.proofs.ReachLemmas.{own_named, own_over}
 use Rattle.lxr_c_arrays.proofs.SettleLemmas.{named_bodies, named_objects}
 use Rattle.lxr_c_arrays.proofs.StoreLemmas.{bodies_now, changed_now, held_refs, others_now, reference_set, references_beside, references_were, registers_now, root_by, store_first, words_beside}
 
@@ -87,6 +88,14 @@ stored x m y h j k index part elements pair is (array, other) own room root with
             other_register u1.small part r None own_apart ∙ registers_now s1 b part (index % 1023) pair.other second.settled u1 second.set r ∙ ap f (kept r less);
         objects = λ n not. others_now s1 b part (index % 1023) pair.other second.settled u1 second.set n (λ e. not (ap (λ q. Some q) e ∙ sym part_named ∙ sym (ap f part_is)))
             ∙ ap (λ g. object_at g n) (named_objects names s s1 same_graph);
+        own = λ r less beside was.
+            let own_apart : r ≢ part = λ e. omega (arith, e, own, less) in
+            let no_part : register_at b.small 1 r ≢ register_at b.small 1 part = λ e. beside (sym (kept r less) ∙ second.settled.apart r part e ∙ at_hand ∙ sym part_is) in
+            let loaded = own_over s s1 r (kept r less) (ap (option_map (λ n. refs_of (object_at s1.small.graph n))) (kept r less) ∙ ap (λ g. option_map (λ n. refs_of (object_at g n)) (register_at s.small 1 r)) same_graph) was in
+            let stored =
+            own_named s1 b u1 second.settled r (registers_now s1 b part (index % 1023) pair.other second.settled u1 second.set r) (references_beside s1 b part (index % 1023) pair.other second.settled u1 second.set r no_part) loaded in
+            let left : register_at u.small 1 r ≡ register_at u1.small 1 r = other_register u1.small part r None own_apart in
+            own_over u1 u r left (ap (option_map (λ n. refs_of (object_at u1.small.graph n))) left) stored;
         bodies = bodies_now s1 b part (index % 1023) pair.other second.settled u1 second.set ∙ named_bodies names s s1 (ap (λ (z : LargeState). z.large) first.got.after);
       }),
     )

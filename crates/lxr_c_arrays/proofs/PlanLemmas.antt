@@ -1,5 +1,5 @@
 -- What was planned was carried out.
-use Rattle.std.proofs.Common.{◌≡◌, ◌+◌, refl, sym, ap, subst, arith, Bool, true, false, None, Some, List}
+use Rattle.std.proofs.Common.{◌≡◌, ◌≢◌, ◌+◌, refl, sym, ap, subst, arith, Bool, true, false, None, Some, List, [], ◌∷◌}
 use Rattle.std.proofs.lemmas.Bool.{leb-true}
 use Rattle.std.proofs.lemmas.Option.{same_Some}
 use Rattle.std.specs.Prelude.{Result, Ok, Err, if◌then◌else◌, nat_le}
@@ -12,10 +12,11 @@ use Rattle.lxr_c_heap.specs.declared.settings.TheConstants.{OWN_REGISTERS}
 use Rattle.lxr_c_heap.specs.Hosting.{IsHostOf, all_registers_in, own_in, registers_in}
 use Rattle.lxr_c_heap.proofs.RegisterLemmas.{named_few}
 use Rattle.lxr_c_heap.proofs.RoomLemmas.{SomeHistory}
+use Rattle.lxr_c_many.specs.declared.asked.Asked.{Asked}
 use Rattle.lxr_c_arrays.specs.declared.registers.Pair.{Pair}
 use Rattle.lxr_c_arrays.specs.Plans.{IsOwn, IsPair, planned}
-use Rattle.lxr_c_arrays.specs.Running.{Carries, InTurn, Plan}
-use Rattle.lxr_c_arrays.proofs.RunLemmas.{runs_host}
+use Rattle.lxr_c_arrays.specs.Running.{Carries, InPlan, InTurn, Plan}
+use Rattle.lxr_c_arrays.proofs.RunLemmas.{runs_host, runs_on, turn_stop}
 
 -- the steps, and then the last operations
 pub carried : (x m y : HostHeap) (plan : Plan) (told : Code) → InTurn x plan.steps m told → InTurn m plan.last y code.Done → (h : List LargeItem) → IsHostOf x h → Carries x y h (Ok plan) told
@@ -24,10 +25,24 @@ carried x m y plan told ran ended h is =
     let (k, ends) = ended j (runs_host x m h j plan.steps told is runs) in
     (m, j, k, runs, ends)
 
+-- so where the first of the steps was done
+pub carried_on : (x m y : HostHeap) (a : Asked) (ops last : List Asked) (told : Code) → InTurn x (a ∷ []) m code.Done → InPlan m (record { steps = ops; last = last }) y told → InPlan x (record { steps = a ∷ ops; last = last }) y told
+carried_on x m y a ops last told first rest = λ h is.
+    let (j, ran) = first h is in
+    let (n, l, k, runs, ends) = rest j (runs_host x m h j (a ∷ []) code.Done is ran) in
+    (n, l, k, runs_on x m n h j l (a ∷ []) ops told ran runs, ends)
+
+-- or wasn't
+pub carried_short : (x m y : HostHeap) (a : Asked) (ops last : List Asked) (told : Code) → InTurn x (a ∷ []) m told → told ≢ code.Done → InTurn m last y code.Done → InPlan x (record { steps = a ∷ ops; last = last }) y told
+carried_short x m y a ops last told first failed ended = carried x m y (record { steps = a ∷ ops; last = last }) told (turn_stop x m (a ∷ []) ops told first failed) ended
+
 -- with what was there
 pub carried_with : {A : Type 0} (x m y : HostHeap) (plan : A → Plan) (there : Result A Code) (a : A) (told : Code) (h : List LargeItem) → IsHostOf x h → Ok a ≡ there → InTurn x (plan a).steps m told → InTurn m (plan a).last y code.Done
     → Carries x y h (planned plan there) told
 carried_with {A} x m y plan there a told h is same ran ended = subst (λ (q : Result A Code). Carries x y h (planned plan q) told) same (carried x m y (plan a) told ran ended h is)
+
+pub carried_by : {A : Type 0} (x y : HostHeap) (plan : A → Plan) (there : Result A Code) (a : A) (told : Code) → Ok a ≡ there → InPlan x (plan a) y told → (h : List LargeItem) → IsHostOf x h → Carries x y h (planned plan there) told
+carried_by {A} x y plan there a told same ran h is = subst (λ (q : Result A Code). Carries x y h (planned plan q) told) same (ran h is)
 
 -- or nothing, where something wasn't
 pub carried_not : {A : Type 0} (x : HostHeap) (plan : A → Plan) (there : Result A Code) (e : Code) (h : List LargeItem) → Err e ≡ there → Carries x x h (planned plan there) e

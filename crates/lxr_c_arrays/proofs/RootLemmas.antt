@@ -1,9 +1,9 @@
 -- A new root has nils.
-use Rattle.std.proofs.Common.{◌≡◌, ◌≢◌, ℕ, zero, suc, ◌+◌, ◌-◌, ◌*◌, ◌/◌, ◌%◌, ◌<◌, ◌≤◌, ◌∙◌, refl, sym, ap, subst, arith, cond, inl, inr, Option, Some, None, List, [], ◌∷◌, ◌++◌, length, map}
+use Rattle.std.proofs.Common.{◌≡◌, ◌≢◌, ℕ, zero, suc, ◌+◌, ◌-◌, ◌*◌, ◌/◌, ◌%◌, ◌<◌, ◌≤◌, ◌⊎◌, ◌∙◌, refl, sym, ap, subst, arith, cond, inl, inr, Option, Some, None, List, [], ◌∷◌, ◌++◌, length, map}
 use Rattle.std.specs.Prelude.{IsTrue, is_some, min, option_map, replicate, slice_get, slice_index_or, slice_set, unwrap_or, if◌then◌else◌, Ok}
 use Rattle.std.proofs.lemmas.Bool.{cases_eq, cases_lt, eq-eqb, lt-leb, ne_eqb}
 use Rattle.std.proofs.lemmas.List.{get_or_past, length-map, length-replicate, length-set, map-id}
-use Rattle.std.proofs.lemmas.Option.{get_or_from_slice_get, same_Some, slice_get-map}
+use Rattle.std.proofs.lemmas.Option.{get_or_from_slice_get, same_Some, slice_get-map, slice_get_within}
 use Rattle.lxr_layout.specs.declared.Name.{Name}
 use Rattle.lxr_layout.specs.declared.Shape.{Shape}
 use Rattle.lxr_layout.specs.declared.TheConstants.{REGISTERS}
@@ -15,11 +15,12 @@ use Rattle.lxr_graph.proofs.RowLemmas.{object_at-with_value, slice_get-set}
 use Rattle.lxr_graph.proofs.NameSets.{same_itself}
 use Rattle.lxr_large_model.specs.State.{LargeState}
 use Rattle.lxr_c_heap.specs.declared.own.OwnRegisters.{OwnRegisters}
-use Rattle.lxr_c_arrays.specs.Elements.{HasMadeRoot, NewRootsHaveNils, as_named, as_renamed, element_in, elements_at, elements_of, references_of, with_renewals}
+use Rattle.lxr_c_arrays.specs.Elements.{HasMadeRoot, HasOwnParts, NewRootsHaveNils, as_named, as_renamed, element_in, elements_at, elements_of, part_of, references_of, with_renewals}
 use Rattle.lxr_c_arrays.specs.Plans.{IsNewArray, own_nil, part_length, part_steps, parts_plan, root_steps}
-use Rattle.lxr_c_arrays.proofs.NewLemmas.{AreThere, GotObject, make_first, new_apart, new_held, new_object, next, old_object, old_register}
+use Rattle.lxr_c_arrays.proofs.NewLemmas.{AreThere, GotObject, make_first, new_apart, new_held, new_object, next, nil_at, old_object, old_register, reached_old}
 use Rattle.lxr_c_arrays.proofs.FillLemmas.{named_lists, named_with, renewals_with, renewed_bodies}
-use Rattle.lxr_c_arrays.proofs.SettleLemmas.{Settled, named_object, same_references}
+use Rattle.lxr_c_arrays.proofs.ReachLemmas.{ReachApart, apart_roots, apart_settled, found_at, own_named, own_over, reached_over}
+use Rattle.lxr_c_arrays.proofs.SettleLemmas.{IsReachedBy, Settled, named_object, same_references}
 use Rattle.lxr_c_arrays.proofs.StoreLemmas.{SetReference, changed_now, held_now, object_now, store_first, unlike}
 use Rattle.std.specs.List.{range_with_len}
 use Rattle.lxr_graph.specs.declared.Op.TheVariants as op
@@ -77,6 +78,7 @@ record Parts (own : OwnRegisters) (elements total n : ℕ) (u : LargeState) : Ty
   pub values : object.values ≡ elements ∷ []
   pub long : length object.refs ≡ total
   pub parts : (k : ℕ) → k < n → HasPart elements u object k
+  pub distinct : (i j : ℕ) (p : Name) → i < n → j < n → slice_get object.refs i ≡ Some (Some p) → slice_get object.refs j ≡ Some (Some p) → i ≡ j
 
 -- a register holds a part
 abbrev HoldsPart : LargeState → ℕ → Shape → Type 0
@@ -98,10 +100,23 @@ module _ (own : OwnRegisters) (elements total n : ℕ) where
             let (p, read, found) = had.parts k less in
             let (q, called, here) = settled.part own.first k had.root p had.object (fresh (part_shape elements k)) had.held had.there read found in (
               q,
-              ap (λ vs. slice_get vs k) (refs_named names had.object) ∙ slice_get-map (as_named names) had.object.refs k ∙ ap (option_map (as_named names)) read ∙ ap (λ v. Some v) called,
+              now_read k ∙ ap (option_map (as_named names)) read ∙ ap (λ v. Some v) called,
               here ∙ ap (λ o. Some o) (fresh_named names (part_shape elements k)),
             );
+        distinct = λ i j p less few one two.
+            let (a, read_a, found_a) = had.parts i less in
+            let (c, read_c, found_c) = had.parts j few in
+            let is_a : as_named names (Some a) ≡ Some p = same_Some _ _ (sym (ap (option_map (as_named names)) read_a) ∙ sym (now_read i) ∙ one) in
+            let is_c : as_named names (Some c) ≡ Some p = same_Some _ _ (sym (ap (option_map (as_named names)) read_c) ∙ sym (now_read j) ∙ two) in
+            let same : a ≡ c = settled.one a c (own.first, part_reached i a read_a) (own.first, part_reached j c read_c) (is_a ∙ sym is_c) in
+            had.distinct i j a less few read_a (read_c ∙ ap (λ q. Some (Some q)) (sym same));
       }
+    where
+      now_read : (k : ℕ) → slice_get (named_object settled.names had.object).refs k ≡ option_map (as_named settled.names) (slice_get had.object.refs k)
+      now_read k = ap (λ vs. slice_get vs k) (refs_named settled.names had.object) ∙ slice_get-map (as_named settled.names) had.object.refs k
+
+      part_reached : (k : ℕ) (q : Name) → slice_get had.object.refs k ≡ Some (Some q) → IsReachedBy u own.first q
+      part_reached k q read = inr (had.root, k, had.held, ap (λ o. slice_get (refs_of o) k) had.there ∙ read)
 
   held_settled : (u b : LargeState) (dest : ℕ) (shape : Shape) → HoldsPart u dest shape → Settled u b → HoldsPart b dest shape
   held_settled u b dest shape (q, held, there) settled =
@@ -122,14 +137,12 @@ module _ (own : OwnRegisters) (elements total n : ℕ) where
     parts = λ k less.
         let (p, read, found) = had.parts k less in
         (p, read, old_object b w own.second shape made p (is_there b p (fresh (part_shape elements k)) found) ∙ found);
+    distinct = had.distinct;
   }
 
-  part_stored : (u b w : LargeState) → n < total → Parts own elements total n b → HoldsPart b own.second (part_shape elements n) → (settled : Settled u b) → SetReference b w own.first n own.second → Parts own elements total (suc n) w
-  part_stored u b w less had (q, held, there) settled set =
-      let root_is : set.name ≡ had.root = same_Some set.name had.root (sym set.held ∙ had.held) in
-      let object_is : set.object ≡ had.object = same_Some set.object had.object (sym set.there ∙ ap (object_at b.small.graph) root_is ∙ had.there) in
-      let v = register_at b.small 1 own.second in
-      let refs = set.object.refs in
+  part_stored : (u b w : LargeState) → n < total → ReachApart b own.first own.second → Parts own elements total n b → HoldsPart b own.second (part_shape elements n) → (settled : Settled u b)
+      → SetReference b w own.first n own.second → Parts own elements total (suc n) w
+  part_stored u b w less beside had (q, held, there) settled set =
       let kept : (p : Name) (k : ℕ) → object_at b.small.graph p ≡ Some (fresh (part_shape elements k)) → object_at w.small.graph p ≡ Some (fresh (part_shape elements k)) =
       λ p k found.
       let apart : p ≢ set.name = λ e.
@@ -146,12 +159,48 @@ module _ (own : OwnRegisters) (elements total n : ℕ) where
         long = length-set refs n v ∙ ap (λ (o : Object). length o.refs) object_is ∙ had.long;
         parts = λ k few. elim (cases_eq k n) [
           | inl same ↦ subst (HasPart elements w (record set.object { refs = slice_set refs n v })) (sym same)
-              (q, slice_get-set refs n v n set.within ∙ ap (λ c. cond c (Some v) (slice_get refs n)) (eq-eqb n n refl) ∙ ap (λ z. Some z) held, kept q n there)
+              (q, last_read ∙ ap (λ z. Some z) held, kept q n there)
           | inr differs ↦
               let (p, read, found) = had.parts k (omega (arith, few, differs)) in
-              (p, slice_get-set refs n v k set.within ∙ ap (λ c. cond c (Some v) (slice_get refs k)) (ne_eqb k n differs) ∙ ap (λ (o : Object). slice_get o.refs k) object_is ∙ read, kept p k found)
+              (p, kept_read k differs ∙ ap (λ (o : Object). slice_get o.refs k) object_is ∙ read, kept p k found)
+        ];
+        distinct = λ i j p below few one two. elim (cases_eq i n) [
+          | inl last ↦ elim (cases_eq j n) [
+            | inl same ↦ last ∙ sym same
+            | inr differs ↦ absurd (once p j differs (subst (λ k. slice_get (slice_set refs n v) k ≡ Some (Some p)) last one) two)
+          ]
+          | inr other ↦ elim (cases_eq j n) [
+            | inl last ↦ absurd (once p i other (subst (λ k. slice_get (slice_set refs n v) k ≡ Some (Some p)) last two) one)
+            | inr differs ↦ had.distinct i j p (omega (arith, below, other)) (omega (arith, few, differs)) (was_read i p other one) (was_read j p differs two)
+          ]
         ];
       }
+    where
+      v : Option Name
+      v = register_at b.small 1 own.second
+
+      refs : List (Option Name)
+      refs = set.object.refs
+
+      root_is : set.name ≡ had.root
+      root_is = same_Some set.name had.root (sym set.held ∙ had.held)
+
+      object_is : set.object ≡ had.object
+      object_is = same_Some set.object had.object (sym set.there ∙ ap (object_at b.small.graph) root_is ∙ had.there)
+
+      kept_read : (k : ℕ) → k ≢ n → slice_get (slice_set refs n v) k ≡ slice_get refs k
+      kept_read k differs = slice_get-set refs n v k set.within ∙ ap (λ c. cond c (Some v) (slice_get refs k)) (ne_eqb k n differs)
+
+      last_read : slice_get (slice_set refs n v) n ≡ Some v
+      last_read = slice_get-set refs n v n set.within ∙ ap (λ c. cond c (Some v) (slice_get refs n)) (eq-eqb n n refl)
+
+      was_read : (k : ℕ) (p : Name) → k ≢ n → slice_get (slice_set refs n v) k ≡ Some (Some p) → slice_get had.object.refs k ≡ Some (Some p)
+      was_read k p differs read = ap (λ (o : Object). slice_get o.refs k) (sym object_is) ∙ sym (kept_read k differs) ∙ read
+
+      -- the part that was stored is none of the earlier ones
+      once : (p : Name) (k : ℕ) → k ≢ n → slice_get (slice_set refs n v) n ≡ Some (Some p) → slice_get (slice_set refs n v) k ≡ Some (Some p) → ⊥
+      once p k differs last read =
+          beside p (inr (set.name, k, set.held, ap (λ o. slice_get (refs_of o) k) set.there ∙ sym (kept_read k differs) ∙ read)) (inl (same_Some v (Some p) (sym last_read ∙ last)))
 
 -- ---- what else there is
 
@@ -161,14 +210,15 @@ record Beside (registers : ℕ) (s u : LargeState) : Type 0 where
   pub held : (r : ℕ) → r < registers → register_at u.small 1 r ≡ as_renamed renewals (register_at s.small 1 r)
   pub references : (r : ℕ) → r < registers → references_in u r ≡ option_map (map (as_renamed renewals)) (references_in s r)
   pub words : (r : ℕ) → r < registers → words_in u r ≡ words_in s r
+  pub own : (r : ℕ) → r < registers → HasOwnParts s r → HasOwnParts u r
   pub bodies : u.large ≡ (with_renewals renewals s).large
 
--- and the root is nothing that they hold
+-- and they reach neither the root nor what it refers to
 abbrev IsApart : ℕ → ℕ → LargeState → Type 0
-IsApart registers root u = (r : ℕ) → r < registers → register_at u.small 1 r ≢ register_at u.small 1 root
+IsApart registers root u = (r : ℕ) → r < registers → ReachApart u r root
 
 beside_same : (registers : ℕ) (s : LargeState) → Beside registers s s
-beside_same registers s = record { renewals = []; held = λ r less. refl; references = λ r less. same_references (references_in s r); words = λ r less. refl; bodies = refl }
+beside_same registers s = record { renewals = []; held = λ r less. refl; references = λ r less. same_references (references_in s r); words = λ r less. refl; own = λ r less was. was; bodies = refl }
 
 beside_settled : (registers : ℕ) (s u b : LargeState) → Beside registers s u → Settled u b → Beside registers s b
 beside_settled registers s u b rest settled =
@@ -178,6 +228,7 @@ beside_settled registers s u b rest settled =
       held = λ r less. settled.registers r ∙ ap (as_named names) (rest.held r less) ∙ named_with names rest.renewals (register_at s.small 1 r);
       references = λ r less. settled.references r ∙ ap (option_map (map (as_named names))) (rest.references r less) ∙ named_lists names rest.renewals (references_in s r);
       words = λ r less. settled.words r ∙ rest.words r less;
+      own = λ r less was. own_named u b b settled r (settled.registers r) (settled.references r) (rest.own r less was);
       bodies = ap (λ (z : LargeState). z.large) settled.state ∙ renewed_bodies names rest.renewals s u rest.bodies;
     }
 
@@ -198,13 +249,14 @@ beside_over registers s u w rest same objects bodies = record {
   held = λ r less. same r less ∙ rest.held r less;
   references = λ r less. same_fields refs_of u w r (same r less) (λ n e. objects r n less e) ∙ rest.references r less;
   words = λ r less. same_fields values_of u w r (same r less) (λ n e. objects r n less e) ∙ rest.words r less;
+  own = λ r less was. own_over u w r (same r less) (same_fields refs_of u w r (same r less) (λ n e. objects r n less e)) (rest.own r less was);
   bodies = bodies ∙ rest.bodies;
 }
 
 -- an object was made, in a register of the library's own
 beside_new : (registers dest : ℕ) (s b w : LargeState) (shape : Shape) → registers ≤ dest → AreThere b → Beside registers s b → GotObject b w dest shape → Beside registers s w
 beside_new registers dest s b w shape more there rest made =
-    beside_over registers s b w rest (λ r less. old_register b w dest shape made r (λ e. omega (arith, e, less, more))) (λ r n less e. old_object b w dest shape made n (there r n e))
+    beside_over registers s b w rest (λ r less. old_register b w dest shape made r (λ e. omega (arith, e, less, more))) (λ r n less e. old_object b w dest shape made n (there n (r, inl e)))
     (ap (λ (z : LargeState). z.large) made.after)
 
 -- a reference was stored, of an object that none of the host's registers hold
@@ -212,10 +264,49 @@ beside_stored : (registers root i source : ℕ) (s u b w : LargeState) → IsApa
 beside_stored registers root i source s u b w apart rest settled set =
     beside_over registers s b w rest (λ r less. ap (λ (z : LargeState). register_at z.small 1 r) set.after)
     (λ r n less e.
-    let other : n ≢ set.name = λ same. apart r less (e ∙ ap (λ q. Some q) same ∙ sym set.held) in
+    let other : n ≢ set.name = λ same. apart r less n (inl e) (inl (set.held ∙ ap (λ q. Some q) (sym same))) in
     object_now u b root i source settled w set n
     ∙ ap (λ c. cond c (Some (record set.object { refs = slice_set set.object.refs i (register_at b.small 1 source) })) (object_at b.small.graph n)) (unlike n set.name other))
     (ap (λ (z : LargeState). z.large) set.after)
+
+-- ---- what is reached after a store
+
+module _ (u b w : LargeState) (root i source : ℕ) (settled : Settled u b) (set : SetReference b w root i source) where
+  -- another register reaches what it reached
+  reached_beside : (r : ℕ) (n : Name) → ReachApart b r root → IsReachedBy w r n → IsReachedBy b r n
+  reached_beside r n apart = reached_over b w r r n (ap (λ (z : LargeState). register_at z.small 1 r) set.after) (λ m held. ap refs_of (kept m held))
+    where
+      kept : (m : Name) → register_at b.small 1 r ≡ Some m → object_at w.small.graph m ≡ object_at b.small.graph m
+      kept m held =
+          object_now u b root i source settled w set m
+          ∙ ap (λ c. cond c (Some (record set.object { refs = slice_set set.object.refs i (register_at b.small 1 source) })) (object_at b.small.graph m))
+          (unlike m set.name (λ same. apart m (inl held) (inl (set.held ∙ ap (λ q. Some q) (sym same)))))
+
+  -- and this one what it reached, or what was stored
+  reached_stored : (n : Name) → IsReachedBy w root n → IsReachedBy b root n ⊎ (register_at b.small 1 source ≡ Some n)
+  reached_stored n (inl held) = inl (inl (sym (ap (λ (z : LargeState). register_at z.small 1 root) set.after) ∙ held))
+  reached_stored n (inr (m, j, held, read)) = at_index (cases_eq j i)
+    where
+      v : Option Name
+      v = register_at b.small 1 source
+
+      same : m ≡ set.name
+      same = same_Some m set.name (sym held ∙ held_now u b root i source settled w set)
+
+      now : slice_get (slice_set set.object.refs i v) j ≡ Some (Some n)
+      now = ap (λ o. slice_get (refs_of o) j) (sym (changed_now u b root i source settled w set)) ∙ ap (λ q. slice_get (refs_of (object_at w.small.graph q)) j) (sym same) ∙ read
+
+      at_index : (j ≡ i) ⊎ (j ≢ i) → IsReachedBy b root n ⊎ (v ≡ Some n)
+      at_index (inl last) =
+          inr (same_Some v (Some n) (sym (slice_get-set set.object.refs i v j set.within ∙ ap (λ c. cond c (Some v) (slice_get set.object.refs j)) (eq-eqb j i last)) ∙ now))
+      at_index (inr differs) =
+          inl (inr (set.name, j, set.held, ap (λ o. slice_get (refs_of o) j) set.there ∙ sym (slice_get-set set.object.refs i v j set.within ∙ ap (λ c. cond c (Some v) (slice_get set.object.refs j)) (ne_eqb j i differs)) ∙ now))
+
+  apart_stored : (r : ℕ) → ReachApart b r root → ReachApart b r source → ReachApart w r root
+  apart_stored r beside new n one two = elim (reached_stored n two) [
+    | inl had ↦ beside n (reached_beside r n beside one) had
+    | inr stored ↦ new n (reached_beside r n beside one) (inl stored)
+  ]
 
 -- ---- the operations
 
@@ -263,13 +354,14 @@ module _ (own : OwnRegisters) (elements total : ℕ) (apart : own.first ≢ own.
       let part = held_settled own elements total n w c own.second shape (next b w own.second shape new.made, new_held b w own.second shape new.made room, new_object b w own.second shape new.made) one.settled in
       let second_apart : (r : ℕ) → r < registers → r ≢ own.second = λ r less e. omega (arith, e, less, more) in
       let kept = beside_settled registers s w c (beside_new registers own.second s b w shape more new.there (beside_settled registers s (large_state j) b beside new.settled) new.made) one.settled in
-      let apart_made : IsApart registers own.first w = λ r less e.
-      apart_before r less (new.settled.apart r own.first (sym (old_register b w own.second shape new.made r (second_apart r less)) ∙ e ∙ old_register b w own.second shape new.made own.first apart)) in
-      let apart_now : IsApart registers own.first c = λ r less e. apart_made r less (one.settled.apart r own.first e) in
+      let apart_now : IsApart registers own.first c = λ r less.
+      apart_settled w c one.settled r own.first
+      (λ q to from. apart_settled (large_state j) b new.settled r own.first (apart_before r less) q (reached_old b w own.second shape new.made r q (second_apart r less) new.there to) (reached_old b w own.second shape new.made own.first q apart new.there from)) in
+      let new_now : (r : ℕ) → r ≢ own.second → ReachApart c r own.second = λ r differs. apart_settled w c one.settled r own.second (new_apart b w own.second shape new.made room new.there r differs) in
       subst (λ l. HasParts registers s (suc n) (large_state l)) (sym one.rest.1) (
-        part_stored own elements total n w c v (omega (arith, within)) (parts_settled own elements total n w c made one.settled) part one.settled one.set,
+        part_stored own elements total n w c v (omega (arith, within)) (new_now own.first apart) (parts_settled own elements total n w c made one.settled) part one.settled one.set,
         beside_stored registers own.first n own.second s w c v apart_now kept one.settled one.set,
-        λ r less e. apart_now r less (sym (ap (λ (z : LargeState). register_at z.small 1 r) one.set.after) ∙ e ∙ ap (λ (z : LargeState). register_at z.small 1 own.first) one.set.after),
+        λ r less. apart_stored w c v own.first n own.second one.settled one.set r (apart_now r less) (new_now r (second_apart r less)),
       )
 
   root_begun : (registers : ℕ) (x y : HostHeap) (h k : List LargeItem) → registers ≤ own.first → IsHostOf x h → Runs x h (new_of own.first total 1 ∷ put_of own.first 0 elements ∷ []) y k code.Done
@@ -289,30 +381,31 @@ module _ (own : OwnRegisters) (elements total : ℕ) (apart : own.first ≢ own.
       let object_is : (n : Name) → object_at (large_state k).small.graph n ≡ cond (same_name n root) (Some changed) (object_at w.small.graph n) =
       λ n. ap (λ (z : LargeState). object_at z.small.graph n) after ∙ object_at-with_value w.small.graph root 0 elements (fresh shape) n there in
       let first_apart : (r : ℕ) → r < registers → r ≢ own.first = λ r less e. omega (arith, e, less, more) in
-      let apart_new : (r : ℕ) → r < registers → register_at w.small 1 r ≢ Some root = λ r less. new_apart b w own.first shape new.made r (first_apart r less) new.there in
+      let apart_new : IsApart registers own.first w = λ r less. new_apart b w own.first shape new.made few new.there r (first_apart r less) in
+      let unlike_root : (r : ℕ) (n : Name) → r < registers → register_at w.small 1 r ≡ Some n → object_at (large_state k).small.graph n ≡ object_at w.small.graph n =
+      λ r n less e. object_is n ∙ ap (λ c. cond c (Some changed) (object_at w.small.graph n)) (unlike n root (λ same. apart_new r less n (inl e) (inl (held ∙ ap (λ q. Some q) (sym same))))) in
+      let now : object_at (large_state k).small.graph root ≡ Some changed = object_is root ∙ ap (λ c. cond c (Some changed) (object_at w.small.graph root)) (same_itself root) in
+      let same_root : (m : Name) → register_at w.small 1 own.first ≡ Some m → refs_of (object_at (large_state k).small.graph m) ≡ refs_of (object_at w.small.graph m) =
+      λ m e. subst (λ q. refs_of (object_at (large_state k).small.graph q) ≡ refs_of (object_at w.small.graph q)) (same_Some root m (sym held ∙ e)) (ap refs_of now ∙ sym (ap refs_of there)) in
       let s : LargeState = large_state h in (
         record {
           root = root;
           object = changed;
           held = register_is own.first ∙ held;
-          there = object_is root ∙ ap (λ c. cond c (Some changed) (object_at w.small.graph root)) (same_itself root);
+          there = now;
           values = refl;
           long = length-replicate total None;
           parts = λ k less. absurd (omega (arith, less));
+          distinct = λ i j p less. absurd (omega (arith, less));
         },
         beside_over registers s w (large_state k) (beside_new registers own.first s b w shape more new.there (beside_settled registers s s b (beside_same registers s) new.settled) new.made)
             (λ r less. register_is r)
-            (λ r n less e. object_is n ∙ ap (λ c. cond c (Some changed) (object_at w.small.graph n)) (unlike n root (λ same. apart_new r less (e ∙ ap (λ q. Some q) same))))
+            unlike_root
             (ap (λ (z : LargeState). z.large) after),
-        λ r less e. apart_new r less (sym (register_is r) ∙ e ∙ register_is own.first ∙ held),
+        λ r less n one two. apart_new r less n (reached_over w (large_state k) r r n (register_is r) (λ m e. ap refs_of (unlike_root r m less e)) one) (reached_over w (large_state k) own.first own.first n (register_is own.first) same_root two),
       )
 
 -- ---- the elements
-
-nil_at : (n j : ℕ) → ◌≡◌ {A = Option Name} (slice_index_or (replicate n None) j None) None
-nil_at zero j = get_or_past [] j None (omega arith)
-nil_at (suc n) zero = refl
-nil_at (suc n) (suc j) = nil_at n j
 
 map_nils : (f : ℕ → Option Name) → ((i : ℕ) → f i ≡ None) → (a n : ℕ) → map f (range_with_len a n) ≡ replicate n None
 map_nils f nils a zero = refl
@@ -344,6 +437,34 @@ root_nils own elements dest u w parts most same held =
     ap (λ r. option_map (λ vs. elements_of w.small.graph vs r) (references_in w dest)) root ∙ ap (option_map (λ vs. elements_of w.small.graph vs (Some elements))) references
     ∙ ap (λ g. Some (elements_of g refs (Some elements))) same
     ∙ ap (λ vs. Some vs) (map_nils (element_in u.small.graph refs) (element_nil own elements ((elements + 1023 - 1) / 1023) u parts) 0 (min elements (1023 * length refs)) ∙ ap (λ n. replicate n None) all)
+
+-- its parts are its own
+root_own : (own : OwnRegisters) (elements total dest : ℕ) (u w : LargeState) → Parts own elements total total u → w.small.graph ≡ u.small.graph
+    → register_at w.small 1 dest ≡ register_at u.small 1 own.first → HasOwnParts w dest
+root_own own elements total dest u w parts same held = record {
+  distinct = λ i j n one two.
+      let (less, read) = part_read i n one in
+      let (few, found) = part_read j n two in
+      parts.distinct i j n less few read found;
+  apart = λ i n one root.
+      let (less, read) = part_read i n one in
+      let (p, is, there) = parts.parts i less in
+      let same_part : n ≡ p = same_Some n p (same_Some (Some n) (Some p) (sym read ∙ is)) in
+      let same_root : parts.root ≡ n = same_Some parts.root n (sym parts.held ∙ sym held ∙ root) in
+      let object : fresh (part_shape elements i) ≡ parts.object = same_Some _ _ (sym there ∙ ap (object_at u.small.graph) (sym same_part ∙ sym same_root) ∙ parts.there) in
+      let none : [] ≡ elements ∷ [] = ap (λ (o : Object). o.values) object ∙ parts.values in
+      absurd (cc);
+}
+  where
+    refs_now : references_in w dest ≡ Some parts.object.refs
+    refs_now = ap (option_map (λ n. refs_of (object_at w.small.graph n))) (held ∙ parts.held) ∙ ap (λ g. Some (refs_of (object_at g parts.root))) same ∙ ap (λ o. Some (refs_of o)) parts.there
+
+    part_read : (i : ℕ) (n : Name) → part_of w dest i ≡ Some n → (i < total) × (slice_get parts.object.refs i ≡ Some (Some n))
+    part_read i n one =
+        let read = found_at parts.object.refs i n (ap (λ v. slice_index_or (unwrap_or v []) i None) (sym refs_now) ∙ one) in
+        let long = parts.long in
+        let within = slice_get_within parts.object.refs i (Some n) read in
+        (omega (arith, within, long), read)
 
 -- ---- the call
 
@@ -385,7 +506,9 @@ rooted x m y h j k wanted own is (small, most) has ran ended =
     let same : (r : ℕ) → r < registers_in x → r ≢ wanted.dest → register_at w.small 1 r ≡ register_at u.small 1 r =
     λ r less other.
     other_register w2.small own.second r None (λ e. omega (arith, e, two, less)) ∙ other_register w1.small own.first r None (λ e. omega (arith, e, one, less))
-    ∙ other_register u.small wanted.dest r (register_at u.small 1 own.first) other in (
+    ∙ other_register u.small wanted.dest r (register_at u.small 1 own.first) other in
+    let clear : (r : ℕ) → r < registers_in x → r ≢ wanted.dest → ReachApart w r wanted.dest =
+    λ r less other n one two. apart r less n (reached_over u w r r n (same r less other) (λ m e. refl) one) (reached_over u w wanted.dest own.first n (held ∙ sym parts.held) (λ m e. refl) two) in (
       k,
       twice.0,
       subst (HasMadeRoot (registers_in x) wanted (large_state h)) (sym is_w) (record {
@@ -394,6 +517,9 @@ rooted x m y h j k wanted own is (small, most) has ran ended =
         held = λ r less other. same r less other ∙ beside.held r less;
         references = λ r less other. same_fields refs_of u w r (same r less other) (λ n e. refl) ∙ beside.references r less;
         words = λ r less other. same_fields values_of u w r (same r less other) (λ n e. refl) ∙ beside.words r less;
+        own = root_own own wanted.length total wanted.dest u w parts refl (held ∙ sym parts.held);
+        apart = λ r less other. let none = clear r less other in (apart_roots w wanted.dest r (λ n one two. none n two one), apart_roots w r wanted.dest none);
+        others = λ r less other was. own_over u w r (same r less other) (same_fields refs_of u w r (same r less other) (λ n e. refl)) (beside.own r less was);
         bodies = beside.bodies;
       }),
     )

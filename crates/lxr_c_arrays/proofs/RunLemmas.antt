@@ -23,7 +23,7 @@ same_on x m y before after = record { named = after.named ∙ before.named; all 
 -- ---- one operation
 
 -- a code is that of success, or another
-code_cases : (c : Code) → (c ≡ code.Done) ⊎ (c ≢ code.Done)
+pub code_cases : (c : Code) → (c ≡ code.Done) ⊎ (c ≢ code.Done)
 code_cases code.Done = inl refl
 code_cases c = inr (λ same. cc)
 

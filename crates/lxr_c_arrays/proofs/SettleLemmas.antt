@@ -3,7 +3,7 @@ use Rattle.std.proofs.Common.{◌≡◌, ℕ, ◌∙◌, refl, sym, ap, subst, i
 use Rattle.std.proofs.Math.ListN.{get_or-map}
 use Rattle.std.proofs.lemmas.List.{append-nil, map-id}
 use Rattle.std.proofs.lemmas.Option.{same_Some}
-use Rattle.std.specs.Prelude.{IsTrue, filter, option_map, slice_get}
+use Rattle.std.specs.Prelude.{◌⊎◌, IsTrue, filter, option_map, slice_get}
 use Rattle.lxr_layout.specs.declared.Name.{Name}
 use Rattle.lxr_graph.specs.Names.{AreInOrder, has}
 use Rattle.lxr_graph.specs.Renewing.{renewed_graph, renewed_name, renewed_held, renewed_object}
@@ -11,7 +11,7 @@ use Rattle.lxr_graph.specs.State.{Object, State, object_at, refs_of, register_at
 use Rattle.lxr_invariant.specs.AbstractState.{members}
 use Rattle.lxr_core_invariant.proofs.HeldLemmas.{IsHeld, in_register, reference_held}
 use Rattle.lxr_renew.proofs.NameLemmas.{one_to_one}
-use Rattle.lxr_renew.proofs.StateLemmas.{object_renewed}
+use Rattle.lxr_renew.proofs.StateLemmas.{object_renewed, refs_renewed}
 use Rattle.lxr_large_model.specs.declared.LargeOp.{LargeOp}
 use Rattle.lxr_large_model.specs.History.{LargeItem, Renewed, large_moment, large_state}
 use Rattle.lxr_large_model.specs.Renewing.{renewed_body}
@@ -20,9 +20,9 @@ use Rattle.lxr_heap.specs.declared.heap.Heap.{Heap}
 use Rattle.lxr_heap.specs.Holding.{IsHeapOf}
 use Rattle.lxr_c_heap.specs.declared.host.Ends.{Ends}
 use Rattle.lxr_c_heap.specs.declared.host.HostHeap.{HostHeap}
-use Rattle.lxr_c_heap.specs.Hosting.{PausesFor, PausesWhere, SettlesAt, behind_pause}
+use Rattle.lxr_c_heap.specs.Hosting.{IsDue, PausesFor, PausesWhere, SettlesAt, Turns, behind_pause, exceeds_room}
 use Rattle.lxr_c_many.specs.Fields.{references_in, words_in}
-use Rattle.lxr_c_arrays.specs.Elements.{as_named, with_names}
+use Rattle.lxr_c_arrays.specs.Elements.{as_named, references_of, with_names}
 
 -- an object, with its references by new names where names were renewed
 abbrev pub named_object : Option (List Name) → Object → Object
@@ -32,6 +32,14 @@ named_object (Some ns) o = record { refs = map (renewed_held ns) o.refs; values 
 -- a state has an object under the name that another name has become
 abbrev pub HasNamed : Option (List Name) → LargeState → Name → Object → Type 0
 HasNamed names b n o = (m : Name) × (as_named names (Some n) ≡ Some m) × (object_at b.small.graph m ≡ Some (named_object names o))
+
+-- a register holds a name, or what it refers to refers to it
+abbrev pub IsReachedBy : LargeState → ℕ → Name → Type 0
+IsReachedBy s r q = (register_at s.small 1 r ≡ Some q) ⊎ ((n : Name) × (i : ℕ) × (register_at s.small 1 r ≡ Some n) × (slice_get (refs_of (object_at s.small.graph n)) i ≡ Some (Some q)))
+
+-- some register does
+abbrev pub IsReached : LargeState → Name → Type 0
+IsReached s q = (r : ℕ) × IsReachedBy s r q
 
 -- A state has what another one has, by new names where names were renewed.
 pub record Settled (s b : LargeState) : Type 0 where
@@ -43,17 +51,19 @@ pub record Settled (s b : LargeState) : Type 0 where
   pub object : (r : ℕ) (n : Name) (o : Object) → register_at s.small 1 r ≡ Some n → object_at s.small.graph n ≡ Some o → HasNamed names b n o
   pub part : (r i : ℕ) (n q : Name) (o p : Object) → register_at s.small 1 r ≡ Some n → object_at s.small.graph n ≡ Some o → slice_get o.refs i ≡ Some (Some q) → object_at s.small.graph q ≡ Some p → HasNamed names b q p
   pub apart : (q r : ℕ) → register_at b.small 1 q ≡ register_at b.small 1 r → register_at s.small 1 q ≡ register_at s.small 1 r
+  pub one : (m n : Name) → IsReached s m → IsReached s n → as_named names (Some m) ≡ as_named names (Some n) → m ≡ n
+  pub refs : (q : Name) → IsReached s q → references_of b.small.graph (as_named names (Some q)) ≡ map (as_named names) (references_of s.small.graph (Some q))
 
 pub same_references : (v : Option (List (Option Name))) → v ≡ option_map (map (λ (q : Option Name). q)) v
 same_references None = refl
 same_references (Some vs) = ap Some (sym (map-id vs))
 
 pub settled_same : (s : LargeState) → Settled s s
-settled_same s = record { names = None; state = refl; registers = λ r. refl; references = λ r. same_references (references_in s r); words = λ r. refl; object = λ r n o held there. (n, refl, there); part = λ r i n q o p held there read found. (q, refl, found); apart = λ q r same. same }
+settled_same s = record { names = None; state = refl; registers = λ r. refl; references = λ r. same_references (references_in s r); words = λ r. refl; object = λ r n o held there. (n, refl, there); part = λ r i n q o p held there read found. (q, refl, found); apart = λ q r same. same; one = λ m n there here e. same_Some m n e; refs = λ q there. sym (map-id (references_of s.small.graph (Some q))) }
 
 module _ (x y : Heap) (h : List LargeItem) (ns : List Name) (is : IsHeapOf x h) (after : IsHeapOf y (Renewed ns ∷ h)) where
   order : AreInOrder (world_name ∷ ns)
-  order = subst AreInOrder after.legal.1.names is.rests.safepoint.holds.follows.unreclaimed
+  order = subst AreInOrder after.legal.1.names is.follows.unreclaimed
 
   -- a member is left
   member_left : (n : Name) → IsTrue (has (members (large_moment h)) n) → IsTrue (has (world_name ∷ ns) n)
@@ -66,7 +76,7 @@ module _ (x y : Heap) (h : List LargeItem) (ns : List Name) (is : IsHeapOf x h) 
   member_held : (r : ℕ) (n : Name) → register_at (large_state h).small 1 r ≡ Some n → IsTrue (has (members (large_moment h)) n)
   member_held r n e =
       let held : register_at (large_moment h).state 1 r ≡ Some n = ap (λ (s : State). register_at s 1 r) is.state ∙ e in
-      subst (IsHeld (large_moment h)) held (in_register (large_moment h) 1 r is.rests.safepoint.holds.follows)
+      subst (IsHeld (large_moment h)) held (in_register (large_moment h) 1 r is.follows)
 
   left : (r : ℕ) (n : Name) → register_at (large_state h).small 1 r ≡ Some n → IsTrue (has (world_name ∷ ns) n)
   left r n e = member_left n (member_held r n e)
@@ -77,7 +87,7 @@ module _ (x y : Heap) (h : List LargeItem) (ns : List Name) (is : IsHeapOf x h) 
 
   part_left : (r i : ℕ) (n q : Name) (o : Object) → register_at (large_state h).small 1 r ≡ Some n → object_at (large_state h).small.graph n ≡ Some o → slice_get o.refs i ≡ Some (Some q) → IsTrue (has (world_name ∷ ns) q)
   part_left r i n q o held there read =
-      member_left q (reference_held (large_moment h) n o i (Some q) is.rests.safepoint.holds.follows (member_held r n held) (ap (λ (s : State). object_at s.graph n) is.state ∙ there) read)
+      member_left q (reference_held (large_moment h) n o i (Some q) is.follows (member_held r n held) (ap (λ (s : State). object_at s.graph n) is.state ∙ there) read)
 
   register_renewed : (r : ℕ) → register_at (large_state (Renewed ns ∷ h)).small 1 r ≡ renewed_held ns (register_at (large_state h).small 1 r)
   register_renewed r = get_or-map (renewed_held ns) (large_state h).small.registers (register_index 1 r) None
@@ -115,8 +125,16 @@ module _ (x y : Heap) (h : List LargeItem) (ns : List Name) (is : IsHeapOf x h) 
           let other : renewed_held ns (Some m) ≡ renewed_held ns (Some n) = sym (ap (renewed_held ns) e) ∙ now ∙ ap (renewed_held ns) f in
           e ∙ ap (λ a. Some a) (one_to_one ns order m n (left q m e) (left r n f) (same_Some (renewed_name ns m) (renewed_name ns n) other)) ∙ sym f
 
+  reached_left : (q : Name) → IsReached (large_state h) q → IsTrue (has (world_name ∷ ns) q)
+  reached_left q (r, inl held) = left r q held
+  reached_left q (r, inr (n, i, held, there)) = at_object (object_at (large_state h).small.graph n) refl
+    where
+      at_object : (o : Option Object) → object_at (large_state h).small.graph n ≡ o → IsTrue (has (world_name ∷ ns) q)
+      at_object None none = absurd (let nowhere : slice_get (refs_of None) i ≡ Some (Some q) = subst (λ o. slice_get (refs_of o) i ≡ Some (Some q)) none there in cc)
+      at_object (Some o) found = part_left r i n q o held found (subst (λ o. slice_get (refs_of o) i ≡ Some (Some q)) found there)
+
   pub settled_anew : Settled (large_state h) (large_state (Renewed ns ∷ h))
-  settled_anew = record { names = Some ns; state = refl; registers = register_renewed; references = references_renewed; words = words_renewed; object = λ r n o held there. object_anew n o (left r n held) there; part = λ r i n q o p held there read found. object_anew q p (part_left r i n q o held there read) found; apart = apart_renewed }
+  settled_anew = record { names = Some ns; state = refl; registers = register_renewed; references = references_renewed; words = words_renewed; object = λ r n o held there. object_anew n o (left r n held) there; part = λ r i n q o p held there read found. object_anew q p (part_left r i n q o held there read) found; apart = apart_renewed; one = λ m n there here e. one_to_one ns order m n (reached_left m there) (reached_left n here) (same_Some (renewed_name ns m) (renewed_name ns n) e); refs = λ q there. refs_renewed ns order 1 (large_state h).small.graph q (reached_left q there) }
 
 -- so it is where a heap settles
 pub settling : (ends : Ends) (x y : HostHeap) (h k : List LargeItem) → SettlesAt ends x h y k → Settled (large_state h) (large_state k)
@@ -134,6 +152,10 @@ paused_state o x y h k (inr (none, left, same)) = ap large_state same
 pub where_state : (cause : Type 0) (collect : Bool) (x y : HostHeap) (h k : List LargeItem) → PausesWhere cause collect x h y k → large_state k ≡ large_state h
 where_state cause collect x y h k (inl (caused, pauses, same)) = ap large_state same
 where_state cause collect x y h k (inr (none, left, same)) = ap large_state same
+
+-- so do the slice and the pause that are due before an object is made
+pub turned_state : (x y : HostHeap) (h : List LargeItem) → (turns : Turns x h y) → large_state turns.history ≡ large_state h
+turned_state x y h turns = where_state (IsDue turns.worked h) (exceeds_room turns.worked) turns.worked y h turns.history turns.pauses
 
 -- names go by what objects and bodies there are
 pub named_objects : (names : Option (List Name)) (s u : LargeState) → u.small.graph ≡ s.small.graph → (with_names names u).small.graph ≡ (with_names names s).small.graph

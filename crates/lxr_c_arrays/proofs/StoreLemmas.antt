@@ -166,7 +166,7 @@ module _ (s b : LargeState) (base i source : ℕ) (settled : Settled s b) (u : L
   others_now n apart = object_now n ∙ ap (λ c. cond c (Some changed) (object_at b.small.graph n)) (unlike n set.name apart) ∙ ap (λ (z : LargeState). object_at z.small.graph n) settled.state
 
   -- an object that a register held beside it keeps its references and data words
-  beside : (n : Name) (v : Option Name) → v ≢ register_at b.small 1 base → v ≡ Some n → object_at u.small.graph n ≡ object_at b.small.graph n
+  pub beside : (n : Name) (v : Option Name) → v ≢ register_at b.small 1 base → v ≡ Some n → object_at u.small.graph n ≡ object_at b.small.graph n
   beside n v apart is =
       let other : n ≢ set.name = λ e. apart (is ∙ ap (λ q. Some q) e ∙ sym set.held) in
       object_now n ∙ ap (λ c. cond c (Some changed) (object_at b.small.graph n)) (unlike n set.name other)

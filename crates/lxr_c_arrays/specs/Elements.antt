@@ -43,6 +43,30 @@ elements_at s base = option_map (λ references. elements_of s.small.graph refere
 abbrev pub element_at : LargeState → ℕ → ℕ → Option (Option Name)
 element_at s base i = slice_get (unwrap_or (elements_at s base) []) i
 
+-- ---- parts
+
+-- part number p of the root that a register holds
+abbrev pub part_of : LargeState → ℕ → ℕ → Option Name
+part_of s base p = slice_index_or (unwrap_or (references_in s base) []) p None
+
+-- the part of an element of a root
+abbrev pub part_at : LargeState → ℕ → ℕ → Option Name
+part_at s base i = part_of s base (i / PART)
+
+-- The parts of a root are its own, as those are that were made with it: no two of them are one object, and none is the root.
+pub record HasOwnParts (s : LargeState) (base : ℕ) : Type 0 where
+  pub distinct : (p q : ℕ) (n : Name) → part_of s base p ≡ Some n → part_of s base q ≡ Some n → p ≡ q
+  pub apart : (p : ℕ) (n : Name) → part_of s base p ≡ Some n → register_at s.small 1 base ≢ Some n
+
+-- a register refers to an object that is no part of a root
+abbrev pub IsNoPart : LargeState → ℕ → ℕ → Type 0
+IsNoPart s base r = (p : ℕ) (n : Name) → part_of s base p ≡ Some n → register_at s.small 1 r ≢ Some n
+
+-- the parts of a root are no objects of another array in parts: neither its root nor a part of it
+pub record AreApart (s : LargeState) (to from : ℕ) : Type 0 where
+  pub root : IsNoPart s to from
+  pub parts : (p q : ℕ) (n : Name) → part_of s to p ≡ Some n → part_of s from q ≢ Some n
+
 -- ---- length
 
 -- an array is as long as it has elements
@@ -94,13 +118,9 @@ StoresReplaceElements =
     (x y : HostHeap) (h : List LargeItem) (index : ℕ) (pair : Pair) → IsHostOf x h → IsPair (registers_in x) pair → root_length (large_state h) pair.array ≡ None → StoresElement index x y h pair code.Done
     → (k : List LargeItem) × IsHostOf y k × HasStored (registers_in x) index pair (large_state h) (large_state k)
 
--- what refers to the part of an element of a root
-abbrev pub part_at : LargeState → ℕ → ℕ → Option Name
-part_at s base i = slice_index_or (unwrap_or (references_in s base) []) (i / PART) None
-
 -- An element of a root was stored to, from state s to u: it is what the other register held, and its part has what it had, but for this reference;
--- each register that the host may name holds what it held, and each object but the part, and each body, is as it was. Where the heap renewed its
--- names on the way, all that is so by the new names.
+-- each register that the host may name holds what it held, and each object but the part, and each body, is as it was. Each root whose parts were its
+-- own, and which isn't that part, has its own still. Where the heap renewed its names on the way, all that is so by the new names.
 pub record HasStoredInPart (registers index : ℕ) (pair : Pair) (s u : LargeState) : Type 0 where
   pub names : Option (List Name)
   pub element : element_at u pair.array index ≡ Some (as_named names (register_at s.small 1 pair.other))
@@ -108,6 +128,7 @@ pub record HasStoredInPart (registers index : ℕ) (pair : Pair) (s u : LargeSta
       ≡ slice_set (map (as_named names) (references_of s.small.graph (part_at s pair.array index))) (index % PART) (as_named names (register_at s.small 1 pair.other))
   pub held : (r : ℕ) → r < registers → register_at u.small 1 r ≡ as_named names (register_at s.small 1 r)
   pub objects : (n : Name) → Some n ≢ as_named names (part_at s pair.array index) → object_at u.small.graph n ≡ object_at (with_names names s).small.graph n
+  pub own : (r : ℕ) → r < registers → register_at s.small 1 r ≢ part_at s pair.array index → HasOwnParts s r → HasOwnParts u r
   pub bodies : u.large ≡ (with_names names s).large
 
 -- a store to a root that tells success has stored to the part of the element, where the root isn't that part itself
@@ -170,6 +191,28 @@ FillsReplaceElements =
     (x y : HostHeap) (h : List LargeItem) (first count : ℕ) (pair : Pair) → IsHostOf x h → IsPair (registers_in x) pair → root_length (large_state h) pair.array ≡ None
     → FillsElements first count x y h pair code.Done → (k : List LargeItem) × IsHostOf y k × HasFilled (registers_in x) first count pair (large_state h) (large_state k)
 
+-- So many elements of a root from one on were filled, from state s to u: they are what the other register held, and each other element is what it
+-- was. Each register that the host may name holds what it held, what it refers to has the references and data words that it had, where that is no
+-- part of the root, and each body is as it was. Each root whose parts were its own, and which is no part of this one, has its own still. Where the
+-- heap renewed its names on the way, all that is so by the new names.
+pub record HasFilledParts (registers first count : ℕ) (pair : Pair) (s u : LargeState) : Type 0 where
+  pub renewals : List (List Name)
+  pub there : first + count ≤ length (unwrap_or (elements_at s pair.array) [])
+  pub filled : (i : ℕ) → first ≤ i → i < first + count → element_at u pair.array i ≡ Some (as_renamed renewals (register_at s.small 1 pair.other))
+  pub others : (i : ℕ) → (i < first) ⊎ (first + count ≤ i) → element_at u pair.array i ≡ option_map (as_renamed renewals) (element_at s pair.array i)
+  pub held : (r : ℕ) → r < registers → register_at u.small 1 r ≡ as_renamed renewals (register_at s.small 1 r)
+  pub references : (r : ℕ) → r < registers → IsNoPart s pair.array r → references_in u r ≡ option_map (map (as_renamed renewals)) (references_in s r)
+  pub words : (r : ℕ) → r < registers → IsNoPart s pair.array r → words_in u r ≡ words_in s r
+  pub own : (r : ℕ) → r < registers → IsNoPart s pair.array r → HasOwnParts s r → HasOwnParts u r
+  pub bodies : u.large ≡ (with_renewals renewals s).large
+
+-- a fill of a root whose parts are its own, and that tells success, has filled the elements
+abbrev pub FillsReachParts : Type 0
+FillsReachParts =
+    (x y : HostHeap) (h : List LargeItem) (first count elements : ℕ) (pair : Pair) → IsHostOf x h → IsPair (registers_in x) pair → root_length (large_state h) pair.array ≡ Some elements
+    → HasOwnParts (large_state h) pair.array → FillsElements first count x y h pair code.Done
+    → (k : List LargeItem) × IsHostOf y k × HasFilledParts (registers_in x) first count pair (large_state h) (large_state k)
+
 -- So many elements of one whole array, from `first` on, were copied to another, or to itself, from `at` on, from state s to u: each is what that
 -- one had before, also where the ranges overlap, and each other element is what it was. Where the heap renewed its names on the way, all that is so
 -- by the new names.
@@ -188,12 +231,40 @@ CopiesReplaceElements =
     → root_length (large_state h) pair.array ≡ None → root_length (large_state h) pair.other ≡ None → CopiesElements at first count x y h pair code.Done
     → (k : List LargeItem) × IsHostOf y k × HasCopied (registers_in x) at first count pair (large_state h) (large_state k)
 
+-- So many elements of one root, from `first` on, were copied to another, or to itself, from `at` on, from state s to u: each is what that one had
+-- before, also where the ranges overlap, and each other element is what it was. The rest is as for a fill.
+pub record HasCopiedParts (registers at first count : ℕ) (pair : Pair) (s u : LargeState) : Type 0 where
+  pub renewals : List (List Name)
+  pub there : at + count ≤ length (unwrap_or (elements_at s pair.array) [])
+  pub from : first + count ≤ length (unwrap_or (elements_at s pair.other) [])
+  pub copied : (i : ℕ) → i < count → element_at u pair.array (at + i) ≡ option_map (as_renamed renewals) (element_at s pair.other (first + i))
+  pub others : (i : ℕ) → (i < at) ⊎ (at + count ≤ i) → element_at u pair.array i ≡ option_map (as_renamed renewals) (element_at s pair.array i)
+  pub held : (r : ℕ) → r < registers → register_at u.small 1 r ≡ as_renamed renewals (register_at s.small 1 r)
+  pub references : (r : ℕ) → r < registers → IsNoPart s pair.array r → references_in u r ≡ option_map (map (as_renamed renewals)) (references_in s r)
+  pub words : (r : ℕ) → r < registers → IsNoPart s pair.array r → words_in u r ≡ words_in s r
+  pub own : (r : ℕ) → r < registers → IsNoPart s pair.array r → HasOwnParts s r → HasOwnParts u r
+  pub bodies : u.large ≡ (with_renewals renewals s).large
+
+-- a copy between roots, which are one or apart, and of which the parts of the one that is written to are its own, has copied the elements where it
+-- tells success
+abbrev pub CopiesReachParts : Type 0
+CopiesReachParts =
+    (x y : HostHeap) (h : List LargeItem) (at first count elements others : ℕ) (pair : Pair) → IsHostOf x h → IsPair (registers_in x) pair
+    → root_length (large_state h) pair.array ≡ Some elements → root_length (large_state h) pair.other ≡ Some others → HasOwnParts (large_state h) pair.array
+    → (register_at (large_state h).small 1 pair.other ≡ register_at (large_state h).small 1 pair.array) ⊎ AreApart (large_state h) pair.array pair.other
+    → CopiesElements at first count x y h pair code.Done
+    → (k : List LargeItem) × IsHostOf y k × HasCopiedParts (registers_in x) at first count pair (large_state h) (large_state k)
+
 -- ---- new roots
 
--- A root was made, from state s to u: its elements are nil, each other register that the host may name holds what it held, what that refers to has
--- the references and data words that it had, and each body is as it was. All that is so by the names of the renewals.
+-- A root was made, from state s to u: its elements are nil, its parts are its own, and they are apart from each root that another register holds, as
+-- that one's are from it. Each other register that the host may name holds what it held, what that refers to has the references and data words that
+-- it had, where its parts were its own they are so still, and each body is as it was. All that is so by the names of the renewals.
 pub record HasMadeRoot (registers : ℕ) (wanted : NewArray) (s u : LargeState) : Type 0 where
   pub elements : elements_at u wanted.dest ≡ Some (replicate wanted.length None)
+  pub own : HasOwnParts u wanted.dest
+  pub apart : (r : ℕ) → r < registers → r ≢ wanted.dest → AreApart u wanted.dest r × AreApart u r wanted.dest
+  pub others : (r : ℕ) → r < registers → r ≢ wanted.dest → HasOwnParts s r → HasOwnParts u r
   pub renewals : List (List Name)
   pub held : (r : ℕ) → r < registers → r ≢ wanted.dest → register_at u.small 1 r ≡ as_renamed renewals (register_at s.small 1 r)
   pub references : (r : ℕ) → r < registers → r ≢ wanted.dest → references_in u r ≡ option_map (map (as_renamed renewals)) (references_in s r)
@@ -219,11 +290,16 @@ pub record HasKept (registers : ℕ) (given : Option ℕ) (s u : LargeState) : T
 abbrev pub KeepsRegisters : HostHeap → List LargeItem → HostHeap → Option ℕ → Type 0
 KeepsRegisters x h y given = (k : List LargeItem) × IsHostOf y k × HasKept (registers_in x) given (large_state h) (large_state k)
 
--- so it is at each call on arrays, whole or in parts, whatever it tells: one that makes an array or loads gives a register something, and no other
--- does
+-- the register that a call gives something, where it tells success
+abbrev pub given_by : Code → ℕ → Option ℕ
+given_by code.Done dest = Some dest
+given_by c dest = None
+
+-- so it is at each call on arrays, whole or in parts, whatever it tells: one that makes an array or loads gives a register something where it tells
+-- success, and no other does
 pub record ArraysKeepRegisters : Type 0 where
-  pub made : (x y : HostHeap) (h : List LargeItem) (wanted : NewArray) (told : Code) → IsHostOf x h → IsNewArray (registers_in x) wanted → MakesArray x y h wanted told → KeepsRegisters x h y (Some wanted.dest)
-  pub loaded : (x y : HostHeap) (h : List LargeItem) (index : ℕ) (pair : Pair) (told : Code) → IsHostOf x h → IsPair (registers_in x) pair → LoadsElement index x y h pair told → KeepsRegisters x h y (Some pair.other)
+  pub made : (x y : HostHeap) (h : List LargeItem) (wanted : NewArray) (told : Code) → IsHostOf x h → IsNewArray (registers_in x) wanted → MakesArray x y h wanted told → KeepsRegisters x h y (given_by told wanted.dest)
+  pub loaded : (x y : HostHeap) (h : List LargeItem) (index : ℕ) (pair : Pair) (told : Code) → IsHostOf x h → IsPair (registers_in x) pair → LoadsElement index x y h pair told → KeepsRegisters x h y (given_by told pair.other)
   pub stored : (x y : HostHeap) (h : List LargeItem) (index : ℕ) (pair : Pair) (told : Code) → IsHostOf x h → IsPair (registers_in x) pair → StoresElement index x y h pair told → KeepsRegisters x h y None
   pub filled : (x y : HostHeap) (h : List LargeItem) (first count : ℕ) (pair : Pair) (told : Code) → IsHostOf x h → IsPair (registers_in x) pair → FillsElements first count x y h pair told → KeepsRegisters x h y None
   pub copied : (x y : HostHeap) (h : List LargeItem) (at first count : ℕ) (pair : Pair) (told : Code) → IsHostOf x h → IsPair (registers_in x) pair → CopiesElements at first count x y h pair told → KeepsRegisters x h y None

@@ -1,18 +1,25 @@
 -- The library's own registers between calls: they are nil.
-use Rattle.std.specs.Prelude.{◌≡◌, ℕ, Bool, None, Some, Ok, List, []}
+use Rattle.std.specs.Prelude.{◌≡◌, ⊤, ℕ, Bool, Option, None, Some, Ok, List, [], ◌∷◌, ◌++◌}
 use Rattle.lxr_graph.specs.State.{register_at}
-use Rattle.lxr_large_model.specs.History.{LargeItem, large_state}
+use Rattle.lxr_pause_decrements.specs.declared.slices.Slice.{Slice}
+use Rattle.lxr_large_model.specs.History.{LargeItem, Called, Paused, Renewed, large_state}
 use Rattle.lxr_large_model.specs.State.{LargeState}
+use Rattle.lxr_heap.specs.declared.bulk.BodyReply.{BodyReply}
+use Rattle.lxr_heap.specs.Acting.{MayBeCalled}
+use Rattle.lxr_heap.specs.Bulk.{WritesWords, with_written}
 use Rattle.lxr_c_base.specs.declared.codes.Code.{Code}
 use Rattle.lxr_c_base.specs.declared.codes.Code.TheVariants as code
 use Rattle.lxr_c_heap.specs.declared.host.HostHeap.{HostHeap}
 use Rattle.lxr_c_heap.specs.declared.own.OwnRegisters.{OwnRegisters}
 use Rattle.lxr_c_heap.specs.declared.settings.Settings.{Settings}
-use Rattle.lxr_c_heap.specs.Hosting.{IsHostOf, IsOpened, PausesAsked, behind_pause, own_in, registers_in}
+use Rattle.lxr_c_heap.specs.Hosting.{IsHostOf, IsOpened, Pauses, Settles, behind_pause, own_in, registers_in}
 use Rattle.lxr_c_heap.specs.Settings.{AreSettings}
+use Rattle.lxr_c_heap.specs.Trimming.{TrimsHost}
+use Rattle.lxr_c_heap.specs.Working.{Works}
 use Rattle.lxr_c_many.specs.declared.applying.Told.{Told}
 use Rattle.lxr_c_many.specs.declared.asked.Asked.{Asked}
 use Rattle.lxr_c_many.specs.Applying.{MayBeAsked, Performs}
+use Rattle.lxr_c_many.specs.Following.{Follows}
 use Rattle.lxr_c_arrays.specs.declared.making.NewArray.{NewArray}
 use Rattle.lxr_c_arrays.specs.declared.registers.Pair.{Pair}
 use Rattle.lxr_c_arrays.specs.Plans.{CopiesElements, FillsElements, IsNewArray, IsPair, LoadsElement, MakesArray, StoresElement, copy_plan, fill_plan, load_plan, new_plan, store_plan}
@@ -48,13 +55,28 @@ pub data IsPlanned (x : HostHeap) (s : LargeState) (plan : Plan) : Type 0 where
   fills : (first count : ℕ) (pair : Pair) → IsPair (registers_in x) pair → fill_plan x s first count pair ≡ Ok plan → IsPlanned x s plan
   copies : (at first count : ℕ) (pair : Pair) → IsPair (registers_in x) pair → copy_plan x s at first count pair ≡ Ok plan → IsPlanned x s plan
 
--- A host was led to a heap of a history: it opened one, and made calls on it. Each is an operation on registers that it may name, a pause that it
--- asks for, a setting of when pauses come, which leaves the heap as it is, or a call on arrays, whose plan was carried out.
+-- these are calls on registers that the host may name
+abbrev pub AllMayBeCalled : ℕ → List LargeItem → Type 0
+AllMayBeCalled registers [] = ⊤
+AllMayBeCalled registers (Called o r ∷ items) = MayBeCalled registers o × AllMayBeCalled registers items
+AllMayBeCalled registers (Paused report ∷ items) = ⊥
+AllMayBeCalled registers (Renewed ns ∷ items) = ⊥
+
+-- A host was led to a heap of a history: it opened one, and made calls on it. What a call does is made of these. An operation on registers that the
+-- host may name is done with the pauses that come before it. The heap settles, and a pause is made, whatever for. Operations are done one after
+-- another with no pause between them. Words are written over those of a body in a row. It is set when pauses come, and how much is done before
+-- them, which leaves the heap as it is. Some of the decrements that wait are done, and the words of a Free block become 0: neither is in the history.
+-- And the plan of a call on arrays is carried out.
 pub data IsLed : HostHeap → List LargeItem → Type 0 where
   opened : (x : HostHeap) (s : Settings) → AreSettings s → IsOpened x s → IsLed x []
   asked : (x y : HostHeap) (h k : List LargeItem) (a : Asked) (told : Told) → IsLed x h → MayBeAsked (registers_in x) a → Performs x h a y k told → IsLed y k
-  paused : (x y : HostHeap) (h : List LargeItem) (collect : Bool) → IsLed x h → (pauses : PausesAsked x y h collect) → IsLed y (behind_pause y pauses.history)
+  settled : (x y : HostHeap) (h k : List LargeItem) → IsLed x h → Settles x h y k → IsLed y k
+  paused : (x y : HostHeap) (h : List LargeItem) (collect : Bool) → IsLed x h → Pauses x y h collect → IsLed y (behind_pause y h)
+  followed : (x y : HostHeap) (h new : List LargeItem) → IsLed x h → AllMayBeCalled (registers_in x) new → Follows x h y new → IsLed y (new ++ h)
+  written : (x y : HostHeap) (h : List LargeItem) (base i : ℕ) (words : List ℕ) (r : BodyReply) → IsLed x h → WritesWords x.heap y.heap h base i words r → y ≡ record x { heap = y.heap } → IsLed y (with_written r h base i words)
   set : (x y : HostHeap) (h : List LargeItem) → IsLed x h → y.heap ≡ x.heap → y.named ≡ x.named → y.bytes ≡ x.bytes → IsLed y h
+  worked : (x y : HostHeap) (h : List LargeItem) (units : ℕ) (next : Option ℕ) (slice : Slice) → IsLed x h → Works x y h units next slice → IsLed y h
+  trimmed : (x y : HostHeap) (h : List LargeItem) (from : ℕ) (block : Option ℕ) → IsLed x h → TrimsHost from x y block → IsLed y h
   carried : (x m y : HostHeap) (h j k : List LargeItem) (plan : Plan) (told : Code) → IsLed x h → IsPlanned x (large_state h) plan → Runs x h plan.steps m j told → Runs m j plan.last y k code.Done → IsLed y k
 
 -- the library's own registers are nil at the opening, and after each call

@@ -1,5 +1,5 @@
 -- What each call on arrays does, by the numbers that a program gives and what the heap has.
-use Rattle.std.specs.Prelude.{◌≡◌, ℕ, ◌+◌, ◌-◌, ◌*◌, ◌/◌, ◌%◌, ◌<◌, ◌≤◌, ◌==◌, ◌||◌, nat_le, nat_lt, min, if◌then◌else◌, Bool, Option, None, Some, option_map, true, false, Result, Ok, Err, List, [], ◌∷◌, ◌++◌}
+use Rattle.std.specs.Prelude.{◌≡◌, ℕ, ◌+◌, ◌-◌, ◌*◌, ◌/◌, ◌%◌, ◌<◌, ◌≤◌, ◌==◌, ◌||◌, nat_le, nat_lt, min, if◌then◌else◌, Bool, Option, None, Some, option_map, false, Result, Ok, Err, List, [], ◌∷◌, ◌++◌}
 use Rattle.lxr_large_model.specs.History.{LargeItem, large_state}
 use Rattle.lxr_large_model.specs.State.{LargeState}
 use Rattle.lxr_c_base.specs.declared.codes.Code.{Code}
@@ -11,12 +11,14 @@ use Rattle.lxr_c_heap.specs.Hosting.{own_in}
 use Rattle.lxr_c_many.specs.declared.asked.Asked.{Asked}
 use Rattle.lxr_c_arrays.specs.declared.copying.Copying.{Copying}
 use Rattle.lxr_c_arrays.specs.declared.making.NewArray.{NewArray}
+use Rattle.lxr_c_arrays.specs.declared.reaching.Access.{Access}
+use Rattle.lxr_c_arrays.specs.declared.reaching.Access.TheVariants as access
 use Rattle.lxr_c_arrays.specs.declared.side.Side.{Side}
 use Rattle.lxr_c_arrays.specs.declared.side.TheConstants.{MOST_ELEMENTS, PART}
 use Rattle.lxr_c_arrays.specs.declared.registers.Pair.{Pair}
-use Rattle.lxr_c_arrays.specs.Operations.{move_of, new_of, nil_of, put_of, store_of}
+use Rattle.lxr_c_arrays.specs.Operations.{load_of, move_of, new_of, nil_of, put_of, store_of}
 use Rattle.lxr_c_arrays.specs.Running.{Carries, Plan, in_turn}
-use Rattle.lxr_c_arrays.specs.Sides.{IsSide, array_length, checks, last_of, load_steps, range_of, side_of, store_steps}
+use Rattle.lxr_c_arrays.specs.Sides.{IsSide, array_length, checks, enter_steps, holder, index_at, last_of, load_steps, range_of, side_of, store_steps}
 
 -- ---- numbers
 
@@ -54,19 +56,31 @@ SeesLength x h base elements = elements ≡ array_length (large_state h) base
 
 -- ---- one element
 
+-- an element that is a reference of what `base` holds is loaded to the other register, or becomes what that holds
+abbrev pub touching : Access → ℕ → ℕ → ℕ → Asked
+touching access.Load other base i = load_of other base i
+touching access.Store other base i = store_of base i other
+
+-- so with an element of an array, whose part is taken in hand before, and let go of then
+abbrev pub reaching : Access → Pair → ℕ → Side → Plan
+reaching what pair index a = record { steps = enter_steps a index ++ touching what pair.other (holder a) (index_at a index) ∷ []; last = last_of a }
+
+abbrev pub reach_plan : Access → HostHeap → LargeState → ℕ → Pair → Result Plan Code
+reach_plan what x s index pair = planned (reaching what pair index) (side_of s (first_own x) pair.array index)
+
 -- the other register gets an element
 abbrev pub loading : Pair → ℕ → Side → Plan
-loading pair index a = record { steps = load_steps a pair.other index; last = last_of a }
+loading = reaching access.Load
 
 abbrev pub load_plan : HostHeap → LargeState → ℕ → Pair → Result Plan Code
-load_plan x s index pair = planned (loading pair index) (side_of s (first_own x) pair.array index)
+load_plan = reach_plan access.Load
 
 -- an element becomes what the other register holds
 abbrev pub storing : Pair → ℕ → Side → Plan
-storing pair index a = record { steps = store_steps a true index pair.other; last = last_of a }
+storing = reaching access.Store
 
 abbrev pub store_plan : HostHeap → LargeState → ℕ → Pair → Result Plan Code
-store_plan x s index pair = planned (storing pair index) (side_of s (first_own x) pair.array index)
+store_plan = reach_plan access.Store
 
 -- ---- a new array
 
@@ -184,11 +198,14 @@ MakesArray x y h wanted told = Carries x y h (new_plan x wanted) told
 abbrev pub MakesInParts : HostHeap → HostHeap → List LargeItem → NewArray → Code → Type 0
 MakesInParts x y h wanted told = Carries x y h (parts_plan (own_in x) wanted) told
 
+abbrev pub ReachesElement : Access → ℕ → HostHeap → HostHeap → List LargeItem → Pair → Code → Type 0
+ReachesElement what index x y h pair told = Carries x y h (reach_plan what x (large_state h) index pair) told
+
 abbrev pub LoadsElement : ℕ → HostHeap → HostHeap → List LargeItem → Pair → Code → Type 0
-LoadsElement index x y h pair told = Carries x y h (load_plan x (large_state h) index pair) told
+LoadsElement = ReachesElement access.Load
 
 abbrev pub StoresElement : ℕ → HostHeap → HostHeap → List LargeItem → Pair → Code → Type 0
-StoresElement index x y h pair told = Carries x y h (store_plan x (large_state h) index pair) told
+StoresElement = ReachesElement access.Store
 
 abbrev pub FillsElements : ℕ → ℕ → HostHeap → HostHeap → List LargeItem → Pair → Code → Type 0
 FillsElements first count x y h pair told = Carries x y h (fill_plan x (large_state h) first count pair) told

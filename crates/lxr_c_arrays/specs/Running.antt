@@ -41,3 +41,7 @@ pub record Plan : Type 0 where
 abbrev pub Carries : HostHeap → HostHeap → List LargeItem → Result Plan Code → Code → Type 0
 Carries x y h (Err e) told = (told ≡ e) × (y ≡ x)
 Carries x y h (Ok plan) told = (m : HostHeap) × (j : List LargeItem) × (k : List LargeItem) × Runs x h plan.steps m j told × Runs m j plan.last y k code.Done
+
+-- so it did what is planned, whatever history the heap is of
+abbrev pub InPlan : HostHeap → Plan → HostHeap → Code → Type 0
+InPlan x plan y told = (h : List LargeItem) → IsHostOf x h → Carries x y h (Ok plan) told

@@ -1,18 +1,18 @@
 //! One element of an array: its part is taken in hand, and the element loaded or stored.
-ghost use Rattle.std.specs.Prelude.{◌≡◌, ◌<◌, List};
-ghost use Rattle.lxr_large_model.specs.History.{LargeItem};
+ghost use Rattle.std.specs.Prelude.{◌≡◌, ◌<◌};
 ghost use Rattle.lxr_c_base.specs.Requests.{register_of as is_register_of};
 ghost use Rattle.lxr_c_base.specs.declared.codes.Code.TheVariants.{Done};
-ghost use Rattle.lxr_c_heap.specs.Hosting.{IsHostOf, IsServing, all_registers_in, registers_in};
+ghost use Rattle.lxr_c_heap.specs.Hosting.{IsServing, all_registers_in};
 ghost use Rattle.lxr_c_heap.specs.Keeping.{registers_kept};
 ghost use Rattle.lxr_c_heap.specs.Looking.{Looks};
 ghost use Rattle.lxr_c_many.specs.Calling.{Does};
-ghost use Rattle.lxr_c_arrays.specs.Plans.{IsPair, LoadsElement, SeesLength, StoresElement, enters as is_entered, pair_of as is_pair_of};
+ghost use Rattle.lxr_c_arrays.specs.Plans.{LoadsElement, SeesLength, StoresElement, enters as is_entered, pair_of as is_pair_of};
 ghost use Rattle.lxr_c_arrays.specs.Running.{InTurn, SameRegisters};
 ghost use Rattle.lxr_c_arrays.specs.Sides.{HasIndex, IsSide, enter_steps, entering, last_of, load_steps, store_steps};
 
-use crate::registers::{Pair, first_own, pair_of};
-use crate::side::{PART, Side, array_length, side_of};
+use crate::reaching::{Access, reach};
+use crate::registers::pair_of;
+use crate::side::{PART, Side, array_length};
 use crate::steps;
 use lxr_c_base::Code;
 use lxr_c_base::requests::register_of;
@@ -115,46 +115,6 @@ pub(crate) fn leave(heap: &mut HostHeap, side: Side)
     }
 }
 
-/// Loads an element, where it is there.
-#[inline(always)]
-fn load_at(heap: &mut HostHeap, pair: Pair, index: u32) -> Code
-    requires serving { IsServing heap.old }
-    requires pair { IsPair (registers_in heap.old) pair }
-    ensures loads { (h : List LargeItem) → IsHostOf heap.old h → LoadsElement index heap.old heap.new h pair result }
-    ensures registers { registers_in heap.new ≡ registers_in heap.old }
-    ensures serving { IsServing heap.new }
-{
-    let part = first_own(heap);
-    match side_of(&heap.heap, part, pair.array, index) {
-        Err(code) => code,
-        Ok(side) => {
-            let code = load_element(heap, side, pair.other, index);
-            leave(heap, side);
-            code
-        }
-    }
-}
-
-/// Stores an element, where it is there.
-#[inline(always)]
-fn store_at(heap: &mut HostHeap, pair: Pair, index: u32) -> Code
-    requires serving { IsServing heap.old }
-    requires pair { IsPair (registers_in heap.old) pair }
-    ensures stores { (h : List LargeItem) → IsHostOf heap.old h → StoresElement index heap.old heap.new h pair result }
-    ensures registers { registers_in heap.new ≡ registers_in heap.old }
-    ensures serving { IsServing heap.new }
-{
-    let part = first_own(heap);
-    match side_of(&heap.heap, part, pair.array, index) {
-        Err(code) => code,
-        Ok(side) => {
-            let code = store_element(heap, side, true, index, pair.other);
-            leave(heap, side);
-            code
-        }
-    }
-}
-
 /// How many elements the array has that `base` holds; none where it is nil.
 pub fn length(handle: &mut Handle, base: u32) -> Result<Option<u32>, Code>
     ensures { Looks SeesLength handle.old.block.value handle.new.block.value (is_register_of (registers_kept handle.old.block.value) base) result }
@@ -171,7 +131,7 @@ pub fn load(handle: &mut Handle, dest: u32, base: u32, index: u32) -> Result<Cod
 {
     handle.found()?;
     let pair = pair_of(handle.registers(), base, dest)?;
-    Ok(load_at(handle.block.lend(), pair, index))
+    Ok(reach(handle.block.lend(), Access::Load, pair, index))
 }
 
 /// An element of the array that `base` holds becomes what `source` holds.
@@ -181,5 +141,5 @@ pub fn store(handle: &mut Handle, base: u32, index: u32, source: u32) -> Result<
 {
     handle.found()?;
     let pair = pair_of(handle.registers(), base, source)?;
-    Ok(store_at(handle.block.lend(), pair, index))
+    Ok(reach(handle.block.lend(), Access::Store, pair, index))
 }

@@ -1,6 +1,6 @@
 //! What the elements of an array are after a call. The functions do nothing: the contract of each is a law of what the calls do.
 ghost use Rattle.lxr_c_arrays.specs.Elements.{LengthCountsElements, LoadsGiveElements, StoresReachParts, StoresReplaceElements};
-ghost use Rattle.lxr_c_arrays.specs.Elements.{ArraysKeepRegisters, CopiesReplaceElements, FillsReplaceElements, NewElementsAreNil, NewRootsHaveNils};
+ghost use Rattle.lxr_c_arrays.specs.Elements.{ArraysKeepRegisters, CopiesReachParts, CopiesReplaceElements, FillsReachParts, FillsReplaceElements, NewElementsAreNil, NewRootsHaveNils};
 ghost use Rattle.lxr_c_arrays.specs.Own.{ArraysKeepNil, OwnStayNil};
 
 /// An array is as long as it has elements.
@@ -35,13 +35,26 @@ pub fn fills_replace_elements()
     ensures { FillsReplaceElements }
 {}
 
+/// A fill of a root whose parts are its own, and that tells success, has filled the elements, and changed nothing else that the host's registers
+/// refer to. The parts are its own still.
+pub fn fills_reach_parts()
+    ensures { FillsReachParts }
+{}
+
 /// A copy between arrays of one object each that tells success has copied the elements, also where the ranges overlap, and changed nothing else that
 /// the host's registers refer to.
 pub fn copies_replace_elements()
     ensures { CopiesReplaceElements }
 {}
 
-/// A call that makes an array of more than 1,023 elements, and tells success, has made so many, which are nil.
+/// A copy between roots that tells success, where they are one or apart, and the parts of the one that is written to are its own, has copied the
+/// elements, also where the ranges overlap, and changed nothing else that the host's registers refer to. The parts are its own still.
+pub fn copies_reach_parts()
+    ensures { CopiesReachParts }
+{}
+
+/// A call that makes an array of more than 1,023 elements, and tells success, has made so many, which are nil, in parts that are its own and apart
+/// from those of other arrays.
 pub fn new_roots_have_nils()
     ensures { NewRootsHaveNils }
 {}
@@ -51,12 +64,13 @@ pub fn arrays_keep_nil()
     ensures { ArraysKeepNil }
 {}
 
-/// They are nil at the opening of a heap, and so after each operation, pause, setting and call on arrays that a host makes on it.
+/// They are nil at the opening of a heap, and so after each call that a host makes on it.
 pub fn own_stay_nil()
     ensures { OwnStayNil }
 {}
 
-/// Each call on arrays, also in roots and whatever it tells, leaves the host's registers, but for the one that it gives something, and bodies.
+/// Each call on arrays, also in roots and whatever it tells, leaves the host's registers, but for the one that it gives something where it tells
+/// success, and bodies.
 pub fn arrays_keep_registers()
     ensures { ArraysKeepRegisters }
 {}

@@ -12,6 +12,7 @@ mod elements;
 mod filling;
 mod laws;
 mod making;
+mod reaching;
 mod registers;
 mod side;
 mod steps;
@@ -20,7 +21,9 @@ pub use copying::copy;
 pub use elements::{length, load, store};
 pub use filling::fill;
 pub use laws::{
-    length_counts_elements, loads_give_elements, new_elements_are_nil, stores_reach_parts,
+    arrays_keep_nil, arrays_keep_registers, copies_reach_parts, copies_replace_elements,
+    fills_reach_parts, fills_replace_elements, length_counts_elements, loads_give_elements,
+    new_elements_are_nil, new_roots_have_nils, own_stay_nil, stores_reach_parts,
     stores_replace_elements,
 };
 pub use making::new;

@@ -1,12 +1,14 @@
 //! An array as its object has it, and which of its elements there are.
-ghost use Rattle.std.specs.Prelude.{◌≡◌, ℕ, ◌+◌, ◌<◌, ◌≤◌, IfOk, IfSome, List, Some};
+ghost use Rattle.std.specs.Prelude.{◌≡◌, ℕ, ◌+◌, ◌<◌, ◌≤◌, IfOk, IfSome, List, Some, option_map};
+ghost use Rattle.lxr_direct.specs.Known.{IsKnown};
 ghost use Rattle.lxr_large_model.specs.History.{LargeItem, large_state};
 ghost use Rattle.lxr_heap.specs.Holding.{IsHeapOf};
 ghost use Rattle.lxr_c_arrays.specs.Sides as sides;
-ghost use Rattle.lxr_c_arrays.specs.Sides.{HasIndex, IsSide};
+ghost use Rattle.lxr_c_arrays.specs.Sides.{IsSide};
 
 use lxr_c_base::Code;
 use lxr_c_base::requests::index_of;
+use lxr_direct::HeldObject;
 use lxr_heap::LargeHeap;
 use lxr_layout::MOST_FIELDS;
 
@@ -49,15 +51,42 @@ impl Side {
     }
 }
 
+/// The root of an array in parts, as it was looked up, and how many elements the array has by it.
+#[derive(Clone, Copy, Debug, PartialEq, Eq)]
+pub struct RootObject {
+    pub object: HeldObject,
+    pub elements: u32,
+}
+
+/// The root that `base` holds; none where that is no root.
+#[inline(always)]
+pub(crate) fn root_in(heap: &LargeHeap, base: u8) -> Option<RootObject>
+    ensures told { (h : List LargeItem) → IsHeapOf heap.now h → option_map (λ root. root.elements) result ≡ sides.root_length (large_state h) base }
+    ensures known { IfSome result (λ root. IsKnown heap.now.space 1 root.object × (root.object.register ≡ base)) }
+    ensures few { IfSome result (λ root. root.elements ≤ MOST_ELEMENTS) }
+{
+    let Some(object) = heap.look_up(base) else {
+        return None;
+    };
+    if object.base.shape.values == 0 {
+        return None;
+    }
+    let word = heap.get_in(object, 0);
+    Some(RootObject {
+        object,
+        elements: word.min(u64::from(MOST_ELEMENTS)) as u32,
+    })
+}
+
 /// How many elements the array has whose root `base` holds; none where that is no root.
 #[inline(always)]
 pub(crate) fn root_length(heap: &LargeHeap, base: u8) -> Option<u32>
     ensures told { (h : List LargeItem) → IsHeapOf heap.now h → result ≡ sides.root_length (large_state h) base }
     ensures few { IfSome result (λ n. n ≤ MOST_ELEMENTS) }
 {
-    match heap.try_get(base, 0) {
+    match root_in(heap, base) {
         None => None,
-        Some(word) => Some(word.min(u64::from(MOST_ELEMENTS)) as u32),
+        Some(root) => Some(root.elements),
     }
 }
 
@@ -119,24 +148,6 @@ fn parts_side(elements: u32, part: Option<u8>, root: u8, end: u64) -> Result<Sid
         Ok(Side::Parts { root, part })
     } else {
         Err(Code::Index)
-    }
-}
-
-/// The array that a register holds, of which one element is meant.
-#[inline(always)]
-pub(crate) fn side_of(
-    heap: &LargeHeap,
-    part: Option<u8>,
-    array: u8,
-    index: u32,
-) -> Result<Side, Code>
-    ensures told { (h : List LargeItem) → IsHeapOf heap.now h → result ≡ sides.side_of (large_state h) part array index }
-    ensures index { IfOk result (λ s. HasIndex s index) }
-    ensures registers { (n : ℕ) → array < n → IfSome part (λ p. p < n) → IfOk result (IsSide n) }
-{
-    match root_length(heap, array) {
-        None => Ok(Side::Whole { array }),
-        Some(elements) => parts_side(elements, part, array, u64::from(index) + 1),
     }
 }
 

@@ -1,5 +1,6 @@
 //! One operation of a call, and what it comes to.
-ghost use Rattle.std.specs.Prelude.{◌≡◌, ◌<◌, [], ◌∷◌};
+ghost use Rattle.std.specs.Prelude.{◌≡◌, ◌<◌, [], ◌∷◌, IsTrue, false};
+ghost use Rattle.lxr_direct.specs.Known.{IsKnown};
 ghost use Rattle.lxr_layout.specs.Objects.{FitsShape};
 ghost use Rattle.lxr_c_base.specs.declared.codes.Code.TheVariants.{Done};
 ghost use Rattle.lxr_c_heap.specs.Hosting.{IsServing, all_registers_in};
@@ -8,6 +9,7 @@ ghost use Rattle.lxr_c_arrays.specs.Running.{InTurn, SameRegisters};
 
 use lxr_c_base::{Code, code_of};
 use lxr_c_heap::HostHeap;
+use lxr_direct::HeldObject;
 use lxr_graph::Op;
 use lxr_large_model::LargeOp;
 use lxr_layout::Shape;
@@ -25,6 +27,19 @@ pub(crate) fn make(heap: &mut HostHeap, dest: u8, shape: Shape) -> Code
     code_of(heap.make(LargeOp::Small(Op::New { dest, shape })))
 }
 
+/// Register `dest` gets a reference of what `base` holds, where it is there. Whether it did.
+#[inline(always)]
+pub(crate) fn try_load(heap: &mut HostHeap, dest: u8, base: u8, index: u16) -> bool
+    requires serving { IsServing heap.old }
+    requires registers { (dest < all_registers_in heap.old) × (base < all_registers_in heap.old) }
+    ensures runs { IsTrue result → InTurn heap.old (load_of dest base index ∷ []) heap.new Done }
+    ensures unchanged { result ≡ false → heap.new ≡ heap.old }
+    ensures same { SameRegisters heap.old heap.new }
+    ensures serving { IsServing heap.new }
+{
+    heap.heap.try_load(dest, base, u32::from(index))
+}
+
 /// Register `dest` gets a reference of what `base` holds.
 #[inline(always)]
 pub(crate) fn load(heap: &mut HostHeap, dest: u8, base: u8, index: u16) -> Code
@@ -34,7 +49,7 @@ pub(crate) fn load(heap: &mut HostHeap, dest: u8, base: u8, index: u16) -> Code
     ensures same { SameRegisters heap.old heap.new }
     ensures serving { IsServing heap.new }
 {
-    if heap.heap.try_load(dest, base, u32::from(index)) {
+    if try_load(heap, dest, base, index) {
         return Code::Done;
     }
     load_aside(heap, dest, base, index)
@@ -53,9 +68,52 @@ fn load_aside(heap: &mut HostHeap, dest: u8, base: u8, index: u16) -> Code
     code_of(heap.reply(LargeOp::Small(Op::Load { dest, base, index })))
 }
 
+/// Register `dest` gets a reference of an object that was looked up.
+#[inline(always)]
+pub(crate) fn load_from(heap: &mut HostHeap, dest: u8, object: HeldObject, index: u16)
+    requires serving { IsServing heap.old }
+    requires registers { (dest < all_registers_in heap.old) × (object.register < all_registers_in heap.old) }
+    requires known { IsKnown heap.old.heap.space 1 object }
+    requires index { index < object.base.shape.refs }
+    ensures runs { InTurn heap.old (load_of dest object.register index ∷ []) heap.new Done }
+    ensures same { SameRegisters heap.old heap.new }
+    ensures serving { IsServing heap.new }
+{
+    heap.heap.load_from(dest, object, index);
+}
+
+/// A reference of what `base` holds becomes what `source` holds, where nothing stands against it. Whether it did.
+#[inline(always)]
+pub(crate) fn try_store(heap: &mut HostHeap, base: u8, index: u16, source: u8) -> bool
+    requires serving { IsServing heap.old }
+    requires registers { (base < all_registers_in heap.old) × (source < all_registers_in heap.old) }
+    ensures runs { IsTrue result → InTurn heap.old (store_of base index source ∷ []) heap.new Done }
+    ensures unchanged { result ≡ false → heap.new ≡ heap.old }
+    ensures same { SameRegisters heap.old heap.new }
+    ensures serving { IsServing heap.new }
+{
+    heap.try_store(base, u32::from(index), source)
+}
+
 /// A reference of what `base` holds becomes what `source` holds.
 #[inline(always)]
 pub(crate) fn store(heap: &mut HostHeap, base: u8, index: u16, source: u8) -> Code
+    requires serving { IsServing heap.old }
+    requires registers { (base < all_registers_in heap.old) × (source < all_registers_in heap.old) }
+    ensures runs { InTurn heap.old (store_of base index source ∷ []) heap.new result }
+    ensures same { SameRegisters heap.old heap.new }
+    ensures serving { IsServing heap.new }
+{
+    if try_store(heap, base, index, source) {
+        return Code::Done;
+    }
+    store_aside(heap, base, index, source)
+}
+
+/// What `store` does where something may stand against it.
+#[cold]
+#[inline(never)]
+fn store_aside(heap: &mut HostHeap, base: u8, index: u16, source: u8) -> Code
     requires serving { IsServing heap.old }
     requires registers { (base < all_registers_in heap.old) × (source < all_registers_in heap.old) }
     ensures runs { InTurn heap.old (store_of base index source ∷ []) heap.new result }

@@ -73,7 +73,7 @@ module _ (x : HostHeap) (y : Heap) (b i s : ℕ) where
       (∥∥₁_elim serving.holds ∥∥₁_prop (λ of. ∣ (of.0, of.1, replies r each of.0 of.1.heap) ∣₁))) (omega arith) (omega arith)
   stored_serves false may serving early does same = subst (λ z. IsServing (record x { heap = z })) (sym (same refl)) serving
 
-  stores : (r : Reply) → (IsAtEnd ENDS x → ⊥) → ((h : List LargeItem) → IsHeapOf x.heap h → IsReplied x.heap y h (large_op.Small o) (large_reply.Small r)) → (h : List LargeItem) → IsHostOf x h
+  pub stores : (r : Reply) → (IsAtEnd ENDS x → ⊥) → ((h : List LargeItem) → IsHeapOf x.heap h → IsReplied x.heap y h (large_op.Small o) (large_reply.Small r)) → (h : List LargeItem) → IsHostOf x h
       → Stores x after h (large_op.Small o) (large_reply.Small r)
   stores r early each h at = record {
     settled = x;

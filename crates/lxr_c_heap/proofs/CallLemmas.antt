@@ -11,12 +11,12 @@ use Rattle.lxr_c_base.specs.declared.codes.Code.{Code}
 use Rattle.lxr_c_base.specs.declared.codes.Code.TheVariants as code
 use Rattle.lxr_c_heap.specs.declared.host.HostHeap.{HostHeap}
 use Rattle.lxr_c_heap.specs.declared.settings.Settings.{Settings}
-use Rattle.lxr_c_heap.specs.Calling.{Asks, AsksPause, Closes, Opens, OpensSome, Sets, SetsPace}
+use Rattle.lxr_c_heap.specs.Calling.{Asks, AsksPause, AsksWork, Closes, Opens, OpensSome, Sets, SetsPace}
 use Rattle.lxr_c_heap.specs.Hosting.{IsHostOf, PausesAsked}
 use Rattle.lxr_c_heap.specs.Keeping.{Kept}
 use Rattle.lxr_c_heap.specs.Looking.{Looks, Writes}
-use Rattle.lxr_c_heap.specs.Pacing.{due_after, pace_of}
-use Rattle.lxr_c_heap.specs.Rooms.{free_in}
+use Rattle.lxr_c_heap.specs.Pacing.{pace_of}
+use Rattle.lxr_c_heap.specs.Working.{WorksAsked, with_pace}
 use Rattle.lxr_c_heap.specs.Settings.{AreSettings}
 use Rattle.lxr_c_base.specs.Requests.{Request}
 
@@ -54,7 +54,10 @@ module _ (before after : Kept) where
   pub pauses_done : (x y : HostHeap) (collect : Bool) → before ≡ Some x → after ≡ Some y → ((h : List LargeItem) → IsHostOf x h → PausesAsked x y h collect) → AsksPause before after collect code.Done
   pauses_done x y collect had has done = subst (λ k. AsksPause k after collect code.Done) (sym had) (y, refl, has, done)
 
-  pub sets_done : (x : HostHeap) (bytes : ℕ) → before ≡ Some x → after ≡ Some (record x { pace = pace_of bytes; limit = due_after (pace_of bytes) x.room (free_in x.heap) }) → SetsPace before after bytes code.Done
+  pub works_done : (x y : HostHeap) (units : ℕ) (more : Bool) → before ≡ Some x → after ≡ Some y → ((h : List LargeItem) → IsHostOf x h → WorksAsked units x y h more) → AsksWork before after units (Ok more)
+  works_done x y units more had has done = subst (λ k. AsksWork k after units (Ok more)) (sym had) (y, more, refl, has, done)
+
+  pub sets_done : (x : HostHeap) (bytes : ℕ) → before ≡ Some x → after ≡ Some (with_pace (pace_of bytes) x) → SetsPace before after bytes code.Done
   sets_done x bytes had has = subst (λ k. SetsPace k after bytes code.Done) (sym had) (refl, has)
 
   pub sets_some : (does : HostHeap → HostHeap → Code → Type 0) (x y : HostHeap) (answer : Code) → before ≡ Some x → after ≡ Some y → does x y answer → Sets does before after answer

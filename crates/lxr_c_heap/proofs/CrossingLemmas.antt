@@ -19,11 +19,14 @@ use Rattle.std.specs.contracts.option.Option as Option
 use Rattle.std.proofs.Crossing.{frees, send, Vec-send}
 use Rattle.lxr_base.specs.contracts.lists.Listed as Listed
 use Rattle.lxr_base.proofs.lists.Listed.TheSendSync as listed
+use Rattle.lxr_layout.specs.contracts.Name as Name
 use Rattle.lxr_layout.specs.contracts.Place as Place
 use Rattle.lxr_layout.specs.contracts.runs.LogEntry as LogEntry
+use Rattle.lxr_layout.proofs.Name.TheSendSync as name
 use Rattle.lxr_layout.proofs.Place.TheSendSync as place
 use Rattle.lxr_layout.proofs.limits.Limits.TheSendSync as limits
 use Rattle.lxr_layout.proofs.runs.LogEntry.TheSendSync as log_entry
+use Rattle.lxr_graph.proofs.name_list.Names.TheSendSync as names
 use Rattle.lxr_graph.proofs.report.Report.TheSendSync as report
 use Rattle.lxr_tables.specs.contracts.closed.ClosedWords as ClosedWords
 use Rattle.lxr_tables.specs.contracts.closed.ClosedWords.TheInside as in_closed
@@ -110,10 +113,10 @@ space_send =
     declared_send Space.the_type (words_send, (limits.the_send, (registers.the_send, (registers.the_send, (entries_send, (places_send, (report.the_send, (tally.the_send, (search sendable, (search sendable depth 20, (search sendable, (search sendable, tt))))))))))))
 
 heap_send : IsSend Heap.the_row
-heap_send = declared_send Heap.the_type (space_send, (bodies.the_send, (search sendable, (search sendable, (search sendable, (search sendable, tt))))))
+heap_send = declared_send Heap.the_type (space_send, (bodies.the_send, (names.the_send, (search sendable, (search sendable, (search sendable, (search sendable, tt)))))))
 
 large_send : IsSend LargeHeap.the_row
 large_send = view_send in_heap.the_row _ _ _ _ (declared_send in_heap.the_type (heap_send, tt))
 
 pub host_send : IsSend HostHeap.the_row
-host_send = declared_send HostHeap.the_type (large_send, (search sendable, (pace.the_send, (room.the_send, (search sendable depth 20, (search sendable, (search sendable, (seal.the_send, tt))))))))
+host_send = declared_send HostHeap.the_type (large_send, (search sendable, (pace.the_send, (room.the_send, (search sendable depth 20, (search sendable depth 20, (search sendable, (search sendable, (search sendable depth 20, (search sendable, (search sendable, (seal.the_send, tt))))))))))))

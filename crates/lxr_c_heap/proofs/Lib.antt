@@ -7,3 +7,4 @@ pub mod CallLemmas
 pub mod CrossingLemmas
 pub mod TryingLemmas
 pub mod AsideLemmas
+pub mod TrimmingLemmas

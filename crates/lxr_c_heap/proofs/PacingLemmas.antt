@@ -1,5 +1,5 @@
 -- The bytes of new objects: what one object takes at most, and what calls, pauses and renewals leave of those that were made since a pause.
-use Rattle.std.proofs.Common.{◌≡◌, ℕ, ◌+◌, ◌*◌, ◌≤◌, ◌⊎◌, ◌∙◌, refl, sym, ap, subst, inl, inr, arith, Bool, List, [], ◌∷◌}
+use Rattle.std.proofs.Common.{◌≡◌, ℕ, ◌+◌, ◌*◌, ◌≤◌, ◌⊎◌, ◌∙◌, refl, sym, ap, subst, inl, inr, arith, Bool, List, [], ◌∷◌, Option}
 use Rattle.lxr_layout.specs.declared.Shape.{Shape}
 use Rattle.lxr_layout.specs.Objects.{FitsShape, word_count}
 use Rattle.lxr_graph.specs.declared.Op.TheVariants as op
@@ -18,8 +18,11 @@ use Rattle.lxr_heap.specs.Bulk.{with_puts, with_written}
 use Rattle.lxr_heap.specs.Holding.{made_with}
 use Rattle.lxr_c_base.specs.Requests.{IsQuiet}
 use Rattle.lxr_c_heap.specs.declared.host.HostHeap.{HostHeap}
+use Rattle.lxr_pause_decrements.specs.declared.slices.Slice.{Slice}
 use Rattle.lxr_layout.specs.declared.TheConstants.{LEAST_REGISTERS}
 use Rattle.lxr_c_heap.specs.Hosting.{IsHostOf, Pauses, Renews, Replies, all_registers_in, behind_pause, registers_in}
+use Rattle.lxr_c_heap.specs.Working.{Works, WorksWhere}
+use Rattle.lxr_heap.specs.declared.heap.Heap.{Heap}
 use Rattle.lxr_c_heap.specs.Pacing.{bytes_by, bytes_made}
 
 -- ---- an object
@@ -91,6 +94,18 @@ replied_host x y h o r is replies = record {
   bytes = ap (λ (z : HostHeap). z.bytes) replies.rest ∙ ap (λ n. n + bytes_by o r) is.bytes;
   named = still_named x y (ap registers_in replies.rest) (ap (λ (t : LargeTerms). t.registers) replies.heap.terms) is.named;
 }
+
+-- for the history nothing happens in a slice
+pub worked_host : (x y : HostHeap) (h : List LargeItem) (units : ℕ) (next : Option ℕ) (slice : Slice) → IsHostOf x h → Works x y h units next slice → IsHostOf y h
+worked_host x y h units next slice is works = record {
+  heap = works.heap.holds;
+  bytes = ap (λ (z : HostHeap). z.bytes) works.rest ∙ is.bytes;
+  named = still_named x y (ap registers_in works.rest) (ap (λ (z : Heap). z.space.limits.registers) works.heap.heap) is.named;
+}
+
+pub sliced_host : (x y : HostHeap) (h : List LargeItem) → IsHostOf x h → WorksWhere x h y → IsHostOf y h
+sliced_host x y h is (inl (due, slice, works)) = worked_host x y h _ _ slice is works
+sliced_host x y h is (inr (none, left)) = subst (λ (z : HostHeap). IsHostOf z h) (sym left) is
 
 -- words that are put take no bytes
 puts_bytes : (h : List LargeItem) (base i : ℕ) (words : List ℕ) → bytes_made (with_puts h base i words) ≡ bytes_made h

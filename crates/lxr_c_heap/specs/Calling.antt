@@ -1,5 +1,5 @@
 -- What each call of a program does at its handle: before and after it is kept a heap, or none.
-use Rattle.std.specs.Prelude.{◌≡◌, ℕ, ◌≤◌, ◌⊎◌, Bool, None, Some, List, Ok, Err}
+use Rattle.std.specs.Prelude.{◌≡◌, ℕ, ◌≤◌, ◌⊎◌, Bool, None, Some, List, Result, Ok, Err}
 use Rattle.lxr_large_model.specs.declared.LargeOp.{LargeOp}
 use Rattle.lxr_large_model.specs.declared.LargeReply.{LargeReply}
 use Rattle.lxr_large_model.specs.History.{LargeItem}
@@ -12,8 +12,10 @@ use Rattle.lxr_c_heap.specs.declared.settings.Settings.{Settings}
 use Rattle.lxr_c_base.specs.Codes.{Answer, answered}
 use Rattle.lxr_c_heap.specs.Hosting.{IsHostOf, IsOpened, PausesAsked, SettlesAt}
 use Rattle.lxr_c_heap.specs.Keeping.{Kept}
-use Rattle.lxr_c_heap.specs.Pacing.{due_after, pace_of}
-use Rattle.lxr_c_heap.specs.Rooms.{free_in, with_blocks}
+use Rattle.lxr_c_heap.specs.declared.working.TheConstants.{MOST_WORK}
+use Rattle.lxr_c_heap.specs.Pacing.{pace_of}
+use Rattle.lxr_c_heap.specs.Rooms.{with_blocks}
+use Rattle.lxr_c_heap.specs.Working.{WorksAsked, with_pace, with_room, with_work}
 use Rattle.lxr_c_heap.specs.Settings.{AreSettings}
 use Rattle.lxr_c_base.specs.Requests.{Request}
 
@@ -55,18 +57,28 @@ AsksPause (Some x) after collect answer = (y : HostHeap) × (answer ≡ code.Don
 -- so many bytes of new objects are to be made between two pauses at most, by the pace of this number
 abbrev pub SetsPace : Kept → Kept → ℕ → Code → Type 0
 SetsPace None after bytes answer = (answer ≡ code.NoHeap) × (after ≡ None)
-SetsPace (Some x) after bytes answer = (answer ≡ code.Done) × (after ≡ Some (record x { pace = pace_of bytes; limit = due_after (pace_of bytes) x.room (free_in x.heap) }))
+SetsPace (Some x) after bytes answer = (answer ≡ code.Done) × (after ≡ Some (with_pace (pace_of bytes) x))
 
 -- Room was to be set for so many blocks, or for all by 0: there are fewer than that in all, or it has it from now on, and all else is as it was.
 abbrev pub SetsRoom : ℕ → HostHeap → HostHeap → Code → Type 0
 SetsRoom blocks x y answer =
-    ((blocks ≤ x.room.reserved) × (answer ≡ code.Done) × (y ≡ record x { room = with_blocks blocks x.room; limit = due_after x.pace (with_blocks blocks x.room) (free_in x.heap) }))
+    ((blocks ≤ x.room.reserved) × (answer ≡ code.Done) × (y ≡ with_room (with_blocks blocks x.room) x))
     ⊎ (¬ (blocks ≤ x.room.reserved) × (answer ≡ code.Size) × (y ≡ x))
 
 -- The growth of the room was to be set: it is out of its range, or holds from the next collecting pause on, and all else is as it was.
 abbrev pub SetsGrow : ℕ → HostHeap → HostHeap → Code → Type 0
 SetsGrow grow x y answer =
     ((grow ≤ MOST_GROW) × (answer ≡ code.Done) × (y ≡ record x { room = record x.room { grow = grow } })) ⊎ (¬ (grow ≤ MOST_GROW) × (answer ≡ code.Size) × (y ≡ x))
+
+-- How many units it does for each 64 bytes of new objects was to be set: there are more than are allowed, or it does so many from now on, and all
+-- else is as it was.
+abbrev pub SetsWork : ℕ → HostHeap → HostHeap → Code → Type 0
+SetsWork units x y answer = ((units ≤ MOST_WORK) × (answer ≡ code.Done) × (y ≡ with_work units x)) ⊎ (¬ (units ≤ MOST_WORK) × (answer ≡ code.Size) × (y ≡ x))
+
+-- Some of what waits for the next pause was to be done: there is no heap, or up to so many units were, and it is told whether slices have more to do.
+abbrev pub AsksWork : Kept → Kept → ℕ → Result Bool Code → Type 0
+AsksWork None after units answer = (answer ≡ Err code.NoHeap) × (after ≡ None)
+AsksWork (Some x) after units answer = (y : HostHeap) × (more : Bool) × (answer ≡ Ok more) × (after ≡ Some y) × ((h : List LargeItem) → IsHostOf x h → WorksAsked units x y h more)
 
 -- something of a heap was to be set
 abbrev pub Sets : (HostHeap → HostHeap → Code → Type 0) → Kept → Kept → Code → Type 0

@@ -17,8 +17,9 @@ use Rattle.lxr_c_heap.specs.declared.settings.Settings.{Settings}
 use Rattle.lxr_layout.specs.declared.TheConstants.{LEAST_REGISTERS}
 use Rattle.lxr_c_heap.specs.declared.settings.TheConstants.{OWN_REGISTERS}
 use Rattle.lxr_c_heap.specs.Pacing.{IsReached, bytes_by, bytes_made, due_after, pace_of}
-use Rattle.lxr_c_heap.specs.Rooms.{free_in, is_exceeded, room_after}
-use Rattle.lxr_c_heap.specs.Settings.{registers_of, room_of, with_own}
+use Rattle.lxr_c_heap.specs.Rooms.{free_in, is_exceeded, room_after, room_limit}
+use Rattle.lxr_c_heap.specs.Settings.{registers_of, room_of, with_own, work_said}
+use Rattle.lxr_c_heap.specs.Working.{IsTimed, WorksWhere, first_slice, turn_of}
 
 -- ---- a heap that serves
 
@@ -42,21 +43,42 @@ pub record IsHostOf (x : HostHeap) (h : List LargeItem) : Type 0 where
   pub named : (LEAST_REGISTERS ≤ registers_in x) × (registers_in x ≤ all_registers_in x)
 
 -- A heap of some history, of which so many more objects and pauses can be made: names have serials, and reports numbers, of 32 bits. No object
--- takes 8 MB, so the bytes of new ones have a number of 64 bits.
+-- takes 8 MB, so the bytes of new ones have a number of 64 bits. Slices and pauses are looked for where one is due.
 pub record HasRoom (objects pauses : ℕ) (x : HostHeap) : Type 0 where
   pub holds : ∥ ((h : List LargeItem) × IsHostOf x h) ∥₁
   pub made : x.heap.made + objects < 2 ^ 32
   pub paused : x.heap.space.pauses + pauses < 2 ^ 32
   pub bytes : x.bytes ≤ 8388608 * x.heap.made
+  pub timed : IsTimed x
 
 -- It can serve each call: an object can be made, and a pause.
 abbrev pub IsServing : HostHeap → Type 0
 IsServing = HasRoom 1 1
 
+-- the limit of a heap that was opened with settings, and how much of it is the room's
+abbrev pub limit_first : HostHeap → Settings → Option ℕ
+limit_first x s = due_after (pace_of s.pace) (room_of s) (free_in x.heap)
+
+abbrev pub brink_first : HostHeap → Settings → Option ℕ
+brink_first x s = room_limit (room_of s) (free_in x.heap)
+
 -- a heap that was opened with settings: of their blocks and registers, and with their pace and room from the first object on
 pub record IsOpened (x : HostHeap) (s : Settings) : Type 0 where
   pub heap : IsOpenedHeap x.heap s.blocks s.body_blocks (with_own (registers_of s))
-  pub rest : x ≡ record { heap = x.heap; named = registers_of s; pace = pace_of s.pace; room = room_of s; limit = due_after (pace_of s.pace) (room_of s) (free_in x.heap); bytes = 0; pauses = 0; seal = x.seal }
+  pub rest : x ≡ record {
+    heap = x.heap;
+    named = registers_of s;
+    pace = pace_of s.pace;
+    room = room_of s;
+    limit = limit_first x s;
+    brink = brink_first x s;
+    bytes = 0;
+    work = work_said s;
+    slice = first_slice (work_said s) 0 (limit_first x s);
+    turn = turn_of (first_slice (work_said s) 0 (limit_first x s)) (limit_first x s) (brink_first x s);
+    pauses = 0;
+    seal = x.seal;
+  }
 
 -- ---- pauses
 
@@ -64,11 +86,28 @@ pub record IsOpened (x : HostHeap) (s : Settings) : Type 0 where
 abbrev pub room_left : HostHeap → Bool → HostHeap → Room
 room_left x collect y = room_after collect x.room (free_in y.heap)
 
--- A pause was made, of the kind that was asked for, and is counted. No bytes were made since, and the room and the limit are those of the heap that
--- it left.
+-- the limit behind it
+abbrev pub limit_left : HostHeap → Bool → HostHeap → Option ℕ
+limit_left x collect y = due_after x.pace (room_left x collect y) (free_in y.heap)
+
+-- how much of it is the room's
+abbrev pub brink_left : HostHeap → Bool → HostHeap → Option ℕ
+brink_left x collect y = room_limit (room_left x collect y) (free_in y.heap)
+
+-- A pause was made, of the kind that was asked for, and is counted. No bytes were made since, the room and the limit are those of the heap that it
+-- left, and slices begin anew.
 pub record Pauses (x y : HostHeap) (h : List LargeItem) (collect : Bool) : Type 0 where
   pub heap : PausesHeap x.heap y.heap h collect
-  pub rest : y ≡ record x { heap = y.heap; room = room_left x collect y; limit = due_after x.pace (room_left x collect y) (free_in y.heap); bytes = 0; pauses = (x.pauses + 1) % 2 ^ 64 }
+  pub rest : y ≡ record x {
+    heap = y.heap;
+    room = room_left x collect y;
+    limit = limit_left x collect y;
+    brink = brink_left x collect y;
+    bytes = 0;
+    slice = first_slice x.work 0 (limit_left x collect y);
+    turn = turn_of (first_slice x.work 0 (limit_left x collect y)) (limit_left x collect y) (brink_left x collect y);
+    pauses = (x.pauses + 1) % 2 ^ 64;
+  }
 
 -- the history behind the pause that a heap has just made
 abbrev pub behind_pause : HostHeap → List LargeItem → List LargeItem
@@ -102,9 +141,13 @@ SettlesAt ends x h y k = (IsAtEnd ends x × (m : HostHeap) × Pauses x m h true 
 abbrev pub Settles : HostHeap → List LargeItem → HostHeap → List LargeItem → Type 0
 Settles = SettlesAt ENDS
 
--- a pause is due before an object is made: those that were made since the last one have as many bytes as the pace allows, and the room
+-- the objects that were made since the last pause have as many bytes as the next one is due by, and nothing is left for slices of what waits for it
+abbrev pub IsDueInTime : HostHeap → List LargeItem → Type 0
+IsDueInTime x h = (x.slice ≡ None) × IsReached x.limit (bytes_made h)
+
+-- A pause is due before an object is made: at once where these objects have as many bytes as the room had left, and else after the slices.
 abbrev pub IsDue : HostHeap → List LargeItem → Type 0
-IsDue x h = IsReached x.limit (bytes_made h)
+IsDue x h = IsReached x.brink (bytes_made h) ⊎ IsDueInTime x h
 
 -- more blocks are in use than it has room for, so that the pause that is due collects
 abbrev pub exceeds_room : HostHeap → Bool
@@ -141,16 +184,21 @@ pub record Stores (x y : HostHeap) (h : List LargeItem) (o : LargeOp) (r : Large
   pub settles : Settles x h settled history
   pub acts : Acts settled y history o r
 
--- An object was made, or refused as full: the heap settles, a pause that is due is made, which collects where the room is exceeded, and the operation
--- is done.
+-- What is due before an object is made was done: a slice, and then a pause, which collects where the room is exceeded.
+pub record Turns (x : HostHeap) (h : List LargeItem) (y : HostHeap) : Type 0 where
+  pub worked : HostHeap
+  pub works : WorksWhere x h worked
+  pub history : List LargeItem
+  pub pauses : PausesWhere (IsDue worked h) (exceeds_room worked) worked h y history
+
+-- An object was made, or refused as full: the heap settles, what is due before it is done, and then the operation.
 pub record Makes (x y : HostHeap) (h : List LargeItem) (o : LargeOp) (r : LargeReply) : Type 0 where
   pub settled : HostHeap
   pub settled_history : List LargeItem
   pub settles : Settles x h settled settled_history
   pub paused : HostHeap
-  pub paused_history : List LargeItem
-  pub pauses : PausesWhere (IsDue settled settled_history) (exceeds_room settled) settled settled_history paused paused_history
-  pub acts : Acts paused y paused_history o r
+  pub turns : Turns settled settled_history paused
+  pub acts : Acts paused y turns.history o r
 
 -- A pause was made that was asked for.
 pub record PausesAsked (x y : HostHeap) (h : List LargeItem) (collect : Bool) : Type 0 where

@@ -1,6 +1,7 @@
 pub mod Rooms
 pub mod Settings
 pub mod Pacing
+pub mod Working
 pub mod Hosting
 pub mod Keeping
 pub mod Lending
@@ -8,3 +9,4 @@ pub mod Calling
 pub mod Looking
 pub mod Crossing
 pub mod Trying
+pub mod Trimming

@@ -1,6 +1,7 @@
 -- What calls tell that only look at a heap, or go over words of a body in a row.
 use Rattle.std.specs.Prelude.{◌≡◌, ℕ, ◌*◌, ◌-◌, ◌↔◌, ◌==◌, Bool, if◌then◌else◌, IsTrue, Option, None, Some, option_map, List, length, unwrap_or, Result, Ok, Err}
 use Rattle.lxr_layout.specs.declared.Shape.{Shape}
+use Rattle.lxr_layout.specs.declared.TheConstants.{DECREMENT_COUNT}
 use Rattle.lxr_graph.specs.declared.Reply.TheVariants as reply
 use Rattle.lxr_graph.specs.State.{register_at}
 use Rattle.lxr_image.specs.Spaces.{tables_of}
@@ -104,10 +105,11 @@ counted_by n =
     else (if n == 6 then Ok counted.FreeBlocks
     else (if n == 7 then Ok counted.FreeBodyBytes
     else (if n == 13 then Ok counted.Room
-    else Err code.What))))))))
+    else (if n == 14 then Ok counted.Waiting
+    else Err code.What)))))))))
 
 -- What is counted: pauses since the heap was opened; names of each list of the last report; objects that aren't reclaimed, without the world; Free
--- blocks; the bytes of the blocks for bodies that no body has; and the blocks of the room, as it was set last.
+-- blocks; the bytes of the blocks for bodies that no body has; the blocks of the room, as it was set last; and entries of the list of decrements.
 abbrev pub Counts : HostHeap → List LargeItem → Counted → ℕ → Type 0
 Counts x h counted.Pauses n = n ≡ x.pauses
 Counts x h counted.Promoted n = n ≡ length x.heap.space.report.promoted.items
@@ -118,6 +120,7 @@ Counts x h counted.Live n = n ≡ length (kept_names (large_moment h))
 Counts x h counted.FreeBlocks n = n ≡ length (listed_frees (tables_of x.heap.space) x.heap.space.limits.blocks)
 Counts x h counted.FreeBodyBytes n = n ≡ 32768 * (x.heap.bodies.blocks - blocks_held x.heap.bodies.bodies)
 Counts x h counted.Room n = n ≡ x.room.blocks
+Counts x h counted.Waiting n = n ≡ (tables_of x.heap.space).cursors DECREMENT_COUNT
 
 -- ---- what the program gets
 

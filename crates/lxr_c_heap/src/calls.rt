@@ -1,7 +1,7 @@
 //! What the calls of a program do at its handle.
 ghost use Rattle.std.specs.Prelude.{◌≡◌, ◌↔◌, None, IsTrue, IfOk, IfSome};
 ghost use Rattle.lxr_c_base.specs.Requests.{IsMaking, IsQuiet, IsStoring};
-ghost use Rattle.lxr_c_heap.specs.Calling.{Asks, AsksPause, Closes, Opens, Sets, SetsGrow, SetsPace, SetsRoom};
+ghost use Rattle.lxr_c_heap.specs.Calling.{Asks, AsksPause, AsksWork, Closes, Opens, Sets, SetsGrow, SetsPace, SetsRoom, SetsWork};
 ghost use Rattle.lxr_c_heap.specs.Hosting.{IsOpened, IsServing, Makes, Replies, Stores};
 ghost use Rattle.lxr_c_heap.specs.Keeping.{registers_kept};
 ghost use Rattle.lxr_c_heap.specs.Settings.{AreSettings};
@@ -146,5 +146,23 @@ impl Handle {
             return Code::NoHeap;
         }
         self.block.lend().set_grow(grow)
+    }
+
+    /// Sets how many units of what waits for the next pause are done for each 64 bytes of new objects.
+    pub fn set_work(&mut self, units: u32) -> Code
+        ensures { Sets (SetsWork units) self.old.block.value self.new.block.value result }
+    {
+        if !self.has_heap() {
+            return Code::NoHeap;
+        }
+        self.block.lend().set_work(units)
+    }
+
+    /// Does up to so many units of what waits for the next pause. Whether slices have more to do.
+    pub fn work(&mut self, units: u32) -> Result<bool, Code>
+        ensures { AsksWork self.old.block.value self.new.block.value units result }
+    {
+        self.found()?;
+        Ok(self.block.lend().work_asked(units))
     }
 }

@@ -29,6 +29,8 @@ pub enum Counted {
     FreeBodyBytes,
     /// Blocks in use until it collects, as they were set last.
     Room,
+    /// Decrements that wait for the next pause.
+    Waiting,
 }
 
 /// What is counted by a number.
@@ -45,6 +47,7 @@ pub(crate) fn counted_by(number: u32) -> Result<Counted, Code>
         6 => Ok(Counted::FreeBlocks),
         7 => Ok(Counted::FreeBodyBytes),
         13 => Ok(Counted::Room),
+        14 => Ok(Counted::Waiting),
         _ => Err(Code::What),
     }
 }
@@ -65,6 +68,7 @@ impl HostHeap {
             Counted::FreeBlocks => u64::from(self.heap.free_blocks()),
             Counted::FreeBodyBytes => BLOCK_BYTES * u64::from(self.heap.free_body_blocks()),
             Counted::Room => u64::from(self.room.blocks),
+            Counted::Waiting => self.heap.waiting(),
         }
     }
 }

@@ -14,7 +14,9 @@ mod own;
 mod pacing;
 mod room;
 mod settings;
+mod trimming;
 mod trying;
+mod working;
 
 pub use crossing::handles_cross;
 pub use handle::Handle;

@@ -65,7 +65,7 @@ impl Pace {
 }
 
 /// The lesser of two limits, where there are both.
-fn lesser(left: Option<u64>, right: Option<u64>) -> Option<u64>
+pub(crate) fn lesser(left: Option<u64>, right: Option<u64>) -> Option<u64>
     ensures { result ≡ is_lesser left right }
 {
     match (left, right) {

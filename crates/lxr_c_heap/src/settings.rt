@@ -1,14 +1,18 @@
 //! What a program in C says of a heap for one thread.
 ghost use Rattle.std.specs.Prelude.{◌≡◌, ◌↔◌, ◌≤◌, IsTrue};
 ghost use Rattle.lxr_layout.specs.declared.TheConstants.{REGISTERS as MOST_REGISTERS};
-ghost use Rattle.lxr_c_heap.specs.Settings.{AreSettings, IsBlockCount, IsKnownSize, IsRegisterCount, grow_said as is_grow_said, registers_of, room_said as is_room_said, with_own as is_with_own};
+ghost use Rattle.lxr_c_heap.specs.Settings.{AreSettings, IsBlockCount, IsKnownSize, IsRegisterCount, grow_said as is_grow_said, registers_of, room_said as is_room_said, says_room, with_own as is_with_own, work_said as is_work_said};
 
 use crate::room::MOST_GROW;
+use crate::working::MOST_WORK;
 use lxr_layout::{LEAST_REGISTERS, MOST_BLOCKS, REGISTERS};
 
 /// The bytes of the settings that are known: of later versions this is the least size but for those of before, and what a shorter one
 /// hasn't is as it was before.
-pub const SETTINGS_BYTES: u64 = 40;
+pub const SETTINGS_BYTES: u64 = 48;
+
+/// The bytes of the settings that end before the slices.
+pub const THIRD_SETTINGS_BYTES: u64 = 40;
 
 /// The bytes of the settings that end before the room.
 pub const SECOND_SETTINGS_BYTES: u64 = 32;
@@ -20,7 +24,8 @@ pub const FIRST_SETTINGS_BYTES: u64 = 24;
 pub const OWN_REGISTERS: u32 = 2;
 
 /// The settings of a heap, as `lxr_settings` has them: how many bytes they are, how many blocks the heap has, and for bodies, after how
-/// many bytes of new objects a plain pause is due, how many registers it has, and its room. What stands after so many bytes isn't read.
+/// many bytes of new objects a plain pause is due, how many registers it has, its room, and what it does between pauses. What stands after so
+/// many bytes isn't read.
 #[repr(C)]
 #[derive(Drop)]
 pub struct Settings {
@@ -36,6 +41,10 @@ pub struct Settings {
     pub room: u32,
     /// How many hundredths more than what lives each collecting pause leaves room for: at most 10,000, and 0 for never.
     pub grow: u32,
+    /// How many units of what waits for the next pause it does for each 64 bytes of new objects: at most 1,000,000, and 0 for none.
+    pub work: u32,
+    /// Nothing is said by these bytes.
+    pub reserved: u32,
 }
 
 /// Whether a heap may have so many blocks.
@@ -68,8 +77,16 @@ impl Settings {
         ensures { IsTrue result ↔ IsKnownSize self.now.size }
     {
         self.size == SETTINGS_BYTES
+            || self.size == THIRD_SETTINGS_BYTES
             || self.size == SECOND_SETTINGS_BYTES
             || self.size == FIRST_SETTINGS_BYTES
+    }
+
+    /// Whether they say a room.
+    fn say_room(&self) -> bool
+        ensures { result ≡ says_room self.now }
+    {
+        self.size == SETTINGS_BYTES || self.size == THIRD_SETTINGS_BYTES
     }
 
     /// How many registers the host is to name: the fewest where settings of version 0.2 don't say it, or where they say 0.
@@ -89,7 +106,7 @@ impl Settings {
     pub(crate) fn room_said(&self) -> u32
         ensures { result ≡ is_room_said self.now }
     {
-        if self.size == SETTINGS_BYTES {
+        if self.say_room() {
             return self.room;
         }
         0
@@ -99,8 +116,18 @@ impl Settings {
     pub(crate) fn grow_said(&self) -> u32
         ensures { result ≡ is_grow_said self.now }
     {
-        if self.size == SETTINGS_BYTES {
+        if self.say_room() {
             return self.grow;
+        }
+        0
+    }
+
+    /// The units for each 64 bytes of new objects that they say: 0, which is none, where shorter ones don't.
+    pub(crate) fn work_said(&self) -> u32
+        ensures { result ≡ is_work_said self.now }
+    {
+        if self.size == SETTINGS_BYTES {
+            return self.work;
         }
         0
     }
@@ -126,6 +153,9 @@ impl Settings {
             return false;
         }
         if !self.has_room() {
+            return false;
+        }
+        if self.work_said() > MOST_WORK {
             return false;
         }
         is_block_count(self.body_blocks)

@@ -5,9 +5,9 @@ use Rattle.lxr_large_model.specs.declared.LargeReply.{LargeReply}
 use Rattle.lxr_large_model.specs.History.{LargeItem, Called}
 use Rattle.lxr_c_heap.specs.declared.host.TheConstants.{ENDS}
 use Rattle.lxr_c_heap.specs.declared.host.HostHeap.{HostHeap}
-use Rattle.lxr_c_heap.specs.Hosting.{Acts, IsDue, IsHostOf, Makes, PausesFor, Stores, exceeds_room}
+use Rattle.lxr_c_heap.specs.Hosting.{Acts, IsHostOf, Makes, PausesFor, Stores}
 use Rattle.lxr_c_heap.proofs.PacingLemmas.{paused_host, replied_host}
-use Rattle.lxr_c_heap.proofs.RoomLemmas.{paused_holds, settled_holds}
+use Rattle.lxr_c_heap.proofs.RoomLemmas.{settled_holds, turned_holds}
 
 -- behind the pause that an operation needs
 pub needed_host : (o : LargeOp) (x y : HostHeap) (h k : List LargeItem) → IsHostOf x h → PausesFor o x h y k → IsHostOf y k
@@ -24,10 +24,8 @@ stores_host x y h o r is stores = acts_host stores.settled y stores.history o r 
 -- before the operation that makes an object
 pub making_host : (x y : HostHeap) (h : List LargeItem) (o : LargeOp) (r : LargeReply) → IsHostOf x h → (makes : Makes x y h o r) → IsHostOf makes.acts.middle makes.acts.history
 making_host x y h o r is makes =
-    needed_host o makes.paused makes.acts.middle makes.paused_history makes.acts.history
-    (paused_holds (IsDue makes.settled makes.settled_history) (exceeds_room makes.settled) makes.settled makes.paused makes.settled_history makes.paused_history
-    (settled_holds ENDS x makes.settled h makes.settled_history is makes.settles) makes.pauses)
-    makes.acts.pauses
+    needed_host o makes.paused makes.acts.middle makes.turns.history makes.acts.history
+    (turned_holds makes.settled makes.paused makes.settled_history (settled_holds ENDS x makes.settled h makes.settled_history is makes.settles) makes.turns) makes.acts.pauses
 
 -- and behind it
 pub makes_host : (x y : HostHeap) (h : List LargeItem) (o : LargeOp) (r : LargeReply) → IsHostOf x h → (makes : Makes x y h o r) → IsHostOf y (Called o r ∷ makes.acts.history)

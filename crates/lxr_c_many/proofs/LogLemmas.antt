@@ -28,8 +28,9 @@ use Rattle.lxr_direct.specs.Recording.{is_unlogged}
 use Rattle.lxr_large_model.specs.History.{LargeItem, Renewed, large_moment, large_state}
 use Rattle.lxr_large_model.specs.Pauses.{most_logged}
 use Rattle.lxr_heap.specs.declared.heap.Heap.{Heap}
-use Rattle.lxr_heap.specs.Holding.{IsHeapOf}
+use Rattle.lxr_heap.specs.Holding.{IsHeapOf, abstract_of}
 use Rattle.lxr_blocks.specs.Masks.{one_if}
+use Rattle.lxr_heap.proofs.EarlyLemmas.{held_same}
 use Rattle.lxr_heap.proofs.HeapLemmas.{one_thread}
 use Rattle.lxr_c_heap.specs.declared.host.Ends.{Ends}
 use Rattle.lxr_c_heap.specs.declared.host.HostHeap.{HostHeap}
@@ -80,17 +81,21 @@ small_place p words refs values granules blocks some cover even within few = ome
 
 -- there are 256 registers
 pub registers_many : (x : Heap) (h : List LargeItem) → IsHeapOf x h → (base : ℕ) → base < REGISTERS → base < length x.space.registers.items
-registers_many x h is base small = let all = is.rests.safepoint.holds.as_many.0 in let one = one_thread x h is in omega (arith, all, one, small)
+registers_many x h is base small = let all = is.stands.0.safepoint.holds.as_many.0 in let one = one_thread x h is in omega (arith, all, one, small)
 
 module _ (x : Heap) (h : List LargeItem) (is : IsHeapOf x h) (base most : ℕ) (has_refs : HasReferences (large_state h) base most) (place : Place) (there : slice_get x.space.registers.items base ≡ Some place) where
   abbrev m : Moment
   m = large_moment h
 
+  -- the moment for which the space is at rest: without what is gone
+  abbrev left : Moment
+  left = (abstract_of x h is.at).moment
+
   abbrev n : Name
   n = has_refs.name
 
-  image : IsImage (tables_of x.space) x.space.limits.blocks is.at m.state.graph (members m)
-  image = is.rests.safepoint.holds.image.image
+  image : IsImage (tables_of x.space) x.space.limits.blocks is.at m.state.graph (members left)
+  image = is.stands.0.safepoint.holds.image.image
 
   index : base ≡ register_index 1 base
   index = omega arith
@@ -103,11 +108,11 @@ module _ (x : Heap) (h : List LargeItem) (is : IsHeapOf x h) (base most : ℕ) (
 
   stands : place.0 ≡ is.at n
   stands =
-      place_read is.at x.space.registers.items m.state.registers (register_index 1 base) place is.rests.safepoint.holds.image.registers (subst (λ i. slice_get x.space.registers.items i ≡ Some place) index there)
+      place_read is.at x.space.registers.items m.state.registers (register_index 1 base) place is.stands.0.safepoint.holds.image.registers (subst (λ i. slice_get x.space.registers.items i ≡ Some place) index there)
       ∙ ap (place_word is.at) held
 
-  member : IsTrue (has (members m) n)
-  member = subst (IsHeld m) held (in_register m 1 base is.rests.safepoint.holds.follows)
+  member : IsTrue (has (members left) n)
+  member = subst (IsHeld left) held (in_register left 1 base is.stands.0.safepoint.holds.follows)
 
   found : (o : Object) × (object_at m.state.graph n ≡ Some o) × Stands (tables_of x.space) x.space.limits.blocks is.at n o
   found = image.stands n member
@@ -119,7 +124,7 @@ module _ (x : Heap) (h : List LargeItem) (is : IsHeapOf x h) (base most : ℕ) (
   stands_at_place = (
     subst (λ z. 1 ≤ z) (sym stands) found.2.placed,
     subst (λ z. z ≤ GRANULES_IN_BLOCK * MOST_BLOCKS) (sym stands)
-        (small_place (is.at n) _ (length found.0.refs) (length found.0.values) _ x.space.limits.blocks found.2.placed (words_cover found.0) (words_even found.0) found.2.whole.in_heap is.rests.safepoint.holds.space.limits.blocks.1),
+        (small_place (is.at n) _ (length found.0.refs) (length found.0.values) _ x.space.limits.blocks found.2.placed (words_cover found.0) (words_even found.0) found.2.whole.in_heap is.stands.0.safepoint.holds.space.limits.blocks.1),
   )
 
   pub lies_inside : field_word place.0 most ≤ WORDS_IN_BLOCK * x.space.limits.blocks
@@ -132,20 +137,26 @@ module _ (x : Heap) (h : List LargeItem) (is : IsHeapOf x h) (base most : ℕ) (
   pub few_references : most ≤ 1023
   few_references = let few = found.2.whole.shape.0 in let some = many in omega (arith, few, some)
 
-  reference : (i : ℕ) → i < most → IsReferenceAt m is.at place.0 i
+  reference : (i : ℕ) → i < most → IsReferenceAt left is.at place.0 i
   reference i few = record { name = n; object = found.0; member = member; is = found.1; stands = stands; within = let some = many in omega (arith, few, some) }
 
-  bit : (i : ℕ) → i < most → (tables_of x.space).unlogged (field_word place.0 i) ≡ is_to_record m (register_at m.state 1 base) i
-  bit i few = elim (cases_Bool ((tables_of x.space).unlogged (field_word place.0 i))) [
+  -- the unlogged bit of a reference tells whether it has to be recorded
+  bit_left : (i : ℕ) → i < most → (tables_of x.space).unlogged (field_word place.0 i) ≡ is_to_record left (register_at m.state 1 base) i
+  bit_left i few = elim (cases_Bool ((tables_of x.space).unlogged (field_word place.0 i))) [
     | inl set ↦
-        let both = set_is_uncleared (tables_of x.space) x.space.limits.blocks is.at m m.written place.0 i n image is.rests.safepoint.holds.bits (reference i few) set member stands in
-        set ∙ sym (ap (λ v. is_to_record m v i) held ∙ and_from (has m.unreclaimed n) (not (has_field m.written (n, i))) both.0 (ap not both.1))
-    | inr clear ↦ clear ∙ sym (ap (λ v. is_to_record m v i) held ∙ elim (cases_Bool (has m.unreclaimed n)) [
-      | inl old ↦ and_right (has m.unreclaimed n) (not (has_field m.written (n, i)))
-          (ap not (clear_is_cleared (tables_of x.space) x.space.limits.blocks is.at m m.written place.0 i n image is.rests.safepoint.holds.bits (reference i few) clear old stands))
-      | inr new ↦ and_left (has m.unreclaimed n) (not (has_field m.written (n, i))) new
+        let both = set_is_uncleared (tables_of x.space) x.space.limits.blocks is.at left m.written place.0 i n image is.stands.0.safepoint.holds.bits (reference i few) set member stands in
+        set ∙ sym (ap (λ v. is_to_record left v i) held ∙ and_from (has left.unreclaimed n) (not (has_field m.written (n, i))) both.0 (ap not both.1))
+    | inr clear ↦ clear ∙ sym (ap (λ v. is_to_record left v i) held ∙ elim (cases_Bool (has left.unreclaimed n)) [
+      | inl old ↦ and_right (has left.unreclaimed n) (not (has_field m.written (n, i)))
+          (ap not (clear_is_cleared (tables_of x.space) x.space.limits.blocks is.at left m.written place.0 i n image is.stands.0.safepoint.holds.bits (reference i few) clear old stands))
+      | inr new ↦ and_left (has left.unreclaimed n) (not (has_field m.written (n, i))) new
     ])
   ]
+
+  -- what a register holds isn't gone, so that is the same by the history
+  bit : (i : ℕ) → i < most → (tables_of x.space).unlogged (field_word place.0 i) ≡ is_to_record m (register_at m.state 1 base) i
+  bit i few =
+      bit_left i few ∙ ap (λ v. is_to_record left v i) held ∙ ap (λ b. b && not (has_field m.written (n, i))) (held_same m x.gone.items is.follows is.gone 1 base n held) ∙ sym (ap (λ v. is_to_record m v i) held)
 
   pub counted : (first count : ℕ) → first + count ≤ most → unlogged_bits (tables_of x.space).unlogged place.0 first count ≡ to_record m (register_at m.state 1 base) first count
   counted first count few = bits_as_many m (register_at m.state 1 base) (tables_of x.space).unlogged place.0 first count (λ i less. bit (first + i) (omega (arith, few, less)))
@@ -188,7 +199,7 @@ renewed_references x y h ns base most is after has_refs = record {
     names = after.legal.1.names
 
     order : AreInOrder (world_name ∷ ns)
-    order = subst AreInOrder names is.rests.safepoint.holds.follows.unreclaimed
+    order = subst AreInOrder names is.follows.unreclaimed
 
     none_made : (large_moment h).made ≡ []
     none_made = (is.collected after.legal.1.fresh).made
@@ -197,7 +208,7 @@ renewed_references x y h ns base most is after has_refs = record {
     held = ap (λ (s : State). register_at s 1 base) is.state ∙ has_refs.held
 
     member : IsTrue (has (members (large_moment h)) has_refs.name)
-    member = subst (IsHeld (large_moment h)) held (in_register (large_moment h) 1 base is.rests.safepoint.holds.follows)
+    member = subst (IsHeld (large_moment h)) held (in_register (large_moment h) 1 base is.follows)
 
     left : IsTrue (has (world_name ∷ ns) has_refs.name)
     left = subst (λ us. IsTrue (has us has_refs.name)) (ap (λ us. us ++ (large_moment h).made) names ∙ ap (λ made. (world_name ∷ ns) ++ made) none_made ∙ append-nil (world_name ∷ ns)) member

@@ -15,7 +15,7 @@ use Rattle.lxr_large_model.specs.declared.LargeReply.TheVariants as large_reply
 use Rattle.lxr_large_model.specs.History.{LargeItem, Called, large_moment, large_state}
 use Rattle.lxr_large_model.specs.State.{LargeState}
 use Rattle.lxr_heap.specs.declared.heap.Heap.{Heap}
-use Rattle.lxr_heap.specs.Holding.{IsHeapOf, abstract_after}
+use Rattle.lxr_heap.specs.Holding.{IsHeapOf, abstract_of}
 use Rattle.lxr_heap.proofs.HeapLemmas.{one_thread}
 use Rattle.lxr_heap.proofs.MomentLemmas.{one_row, two_rows}
 use Rattle.lxr_c_heap.specs.declared.host.HostHeap.{HostHeap}
@@ -54,7 +54,7 @@ filled wanted sources words m y k r one follows = let made = one_made r one in s
 -- the state has each register that a heap may have
 pub all_registers : (x : Heap) (h : List LargeItem) → IsHeapOf x h → length (large_state h).small.registers ≡ REGISTERS
 all_registers x h is =
-    let rows_are = one_row x.space (abstract_after h is.at) is.rests (one_thread x h is) in
+    let rows_are = one_row x.space (abstract_of x h is.at) is.stands.0 (one_thread x h is) in
     let same = ap (λ (z : State). length z.registers) is.state in
     omega (arith, rows_are, same)
 
@@ -82,7 +82,7 @@ module _ (registers : ℕ) (few : registers ≤ REGISTERS) (sources words : List
 
   rows : 1 < length g
   rows =
-      let two = two_rows x.heap.space (abstract_after h host.heap.at) host.heap.rests (one_thread x.heap h host.heap) in
+      let two = two_rows x.heap.space (abstract_of x.heap h host.heap.at) host.heap.stands.0 (one_thread x.heap h host.heap) in
       let same = ap (λ (z : State). length z.graph) host.heap.state in
       omega (arith, two, same)
 
@@ -96,7 +96,7 @@ module _ (registers : ℕ) (few : registers ≤ REGISTERS) (sources words : List
       ∙ ap (λ b. cond b (Some (fresh wanted.shape)) (object_at g (next_name g 1))) (same_itself (next_name g 1))
 
   unreclaimed : has (large_moment k).unreclaimed n ≡ false
-  unreclaimed = holds.rests.safepoint.holds.follows.apart n (made_new (large_moment h).made (reply.New n) n refl)
+  unreclaimed = holds.follows.apart n (made_new (large_moment h).made (reply.New n) n refl)
 
   new_object : IsNew sources words wanted y k
   new_object = record {

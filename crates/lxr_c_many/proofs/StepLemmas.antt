@@ -39,6 +39,7 @@ replied_serves x heap o r none room replied = record {
       let few = room.paused in
       omega (arith, same, few));
   bytes = ∥∥₁_elim room.holds le_prop (λ of. let same = same_made of.0 of.1 in let few = room.bytes in omega (arith, same, few));
+  timed = room.timed;
 }
   where
     same_made : (h : List LargeItem) → IsHostOf x h → heap.made ≡ x.heap.made

@@ -15,7 +15,7 @@ use Rattle.lxr_large_model.specs.History.{LargeItem, large_moment}
 use Rattle.lxr_large_model.specs.Pauses.{most_logged}
 use Rattle.lxr_heap.specs.declared.heap.Heap.{Heap}
 use Rattle.lxr_heap.specs.Acting.{WantsNoPause}
-use Rattle.lxr_heap.specs.Holding.{IsHeapOf, abstract_after}
+use Rattle.lxr_heap.specs.Holding.{IsHeapOf, abstract_of}
 use Rattle.lxr_blocks.specs.Masks.{one_if}
 use Rattle.lxr_c_heap.specs.declared.host.HostHeap.{HostHeap}
 use Rattle.lxr_c_heap.specs.Hosting.{Replies}
@@ -31,12 +31,12 @@ use Rattle.lxr_c_many.proofs.StateLemmas.{store_registers}
 
 -- it has an entry for each reference that was stored to since the last pause
 pub log_long : (x : Heap) (h : List LargeItem) → IsHeapOf x h → length x.space.logged.items ≡ length (large_moment h).written
-log_long x h is = sym (log_is_written x.space (abstract_after h is.at) is.rests.safepoint)
+log_long x h is = sym (log_is_written x.space (abstract_of x h is.at) is.stands.0.safepoint)
 
 -- and no more than fit in it
 pub log_fits : (x : Heap) (h : List LargeItem) → IsHeapOf x h → length (large_moment h).written ≤ most_logged
 log_fits x h is =
-    let few : length x.space.logged.items ≤ 1 * 1024 = subst (λ (l : Limits). length x.space.logged.items ≤ l.threads * l.log) is.limits is.rests.safepoint.holds.few_logs in
+    let few : length x.space.logged.items ≤ 1 * 1024 = subst (λ (l : Limits). length x.space.logged.items ≤ l.threads * l.log) is.limits is.stands.0.safepoint.holds.few_logs in
     let same = log_long x h is in
     omega (arith, few, same)
 

@@ -1,4 +1,5 @@
 pub mod Holding
+pub mod Lending
 pub mod Sharing
 pub mod Passing
 pub mod Crossing

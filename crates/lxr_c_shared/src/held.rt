@@ -1,5 +1,6 @@
 //! A heap that threads share, or a station, in a block of its own, by its address alone, so that a program in C can keep it.
 ghost use Rattle.std.specs.Prelude.{◌≡◌, None, Some, IsSome};
+ghost use Rattle.std.specs.Borrow.{sem};
 ghost use Rattle.lxr_c_shared.specs.Holding.{held_owns, MayHold};
 
 use crate::owned::Owned;
@@ -23,6 +24,8 @@ impl Model for Held {
 unsafe impl Send for Held {}
 
 impl Held {
+    ghost use Rattle.lxr_c_shared.specs.Lending.{LendsOwned};
+
     /// Nothing.
     pub(crate) fn empty(alloc: Global) -> Held
         ensures { result.value ≡ None }
@@ -61,5 +64,16 @@ impl Held {
         requires { self.value ≡ None }
     {
         let Held { ptr: _, alloc: _ } = self;
+    }
+
+    /// Lends what is there to a call, on the condition that there is something.
+    #[inline(always)]
+    pub(crate) fn lend(&mut self) -> &mut Owned
+        requires { IsSome self.old.value }
+        ensures* writes_back { sem 𝓛 (LendsOwned self.entry result) }
+        ensures held { self.old.value ≡ Some result.now }
+    {
+        // SAFETY: what is held is at this address, and whoever has the holder alone has it alone.
+        unsafe { &mut *(self.ptr as *mut Owned) }
     }
 }

@@ -1,5 +1,5 @@
 //! What a program in C has for a heap that threads share, or for a station: a struct of two words of its own, which begins as zeros.
-ghost use Rattle.std.specs.Prelude.{◌≡◌, ◌<◌, None, Some, IsSome};
+ghost use Rattle.std.specs.Prelude.{◌≡◌, ◌<◌, ◌↔◌, None, Some, IsSome, IsTrue};
 ghost use Rattle.lxr_c_shared.specs.Holding.{held_of};
 
 use crate::held::Held;
@@ -27,6 +27,14 @@ impl Holder {
             live: 0,
             held: Held::empty(alloc),
         }
+    }
+
+    /// Whether there is something: then `held` may be lent to a call.
+    #[inline(always)]
+    pub(crate) fn is_full(&self) -> bool
+        ensures { IsTrue result ↔ IsSome self.now.held.value }
+    {
+        self.live != 0
     }
 
     /// Takes out what is there, if something is.

@@ -305,10 +305,8 @@ impl Holder {
     fn send(&mut self, alloc: Global, heap: &Heap, number: u32) -> Result<(), NotSent>
         ensures { SendsPass heap.now number self.old.held.value self.new.held.value result }
     {
-        if let Some(mut owned) = self.take(alloc) {
-            let sent = owned.send(heap, number);
-            self.put(owned);
-            return sent;
+        if self.is_full() {
+            return self.held.lend().send(heap, number);
         }
         match boxed_station(alloc, heap, number) {
             Ok(owned) => {
@@ -329,24 +327,20 @@ impl Holder {
         ensures done { LetsOut number station.old.held.value station.new.held.value self.old.held.value result }
         ensures kept { self.new.held.value ≡ self.old.held.value }
     {
-        let Some(owned) = self.take(alloc) else {
+        if !self.is_full() {
             return Err(NotSent::NoHeap);
-        };
-        let sent = owned.let_out(alloc, number, station);
-        self.put(owned);
-        sent
+        }
+        self.held.lend().let_out(alloc, number, station)
     }
 
     /// Brings the pass home.
-    pub fn come_home(&mut self, alloc: Global) -> Code
+    pub fn come_home(&mut self) -> Code
         ensures { At Code.NoHeap ComesHome self.old.held.value self.new.held.value result }
     {
-        let Some(mut owned) = self.take(alloc) else {
+        if !self.is_full() {
             return Code::NoHeap;
-        };
-        let code = owned.come_home();
-        self.put(owned);
-        code
+        }
+        self.held.lend().come_home()
     }
 
     /// Ends the station; its pass comes home, and what it answers tells so.
@@ -365,67 +359,57 @@ impl Holder {
     }
 
     /// Whether a pause is wanted.
-    pub fn wants_pause(&mut self, alloc: Global) -> Result<bool, Code>
+    pub fn wants_pause(&mut self) -> Result<bool, Code>
         ensures { At (Err Code.NoHeap) SeesWanted self.old.held.value self.new.held.value result }
     {
-        let Some(owned) = self.take(alloc) else {
+        if !self.is_full() {
             return Err(Code::NoHeap);
-        };
-        let wants = owned.wants_pause();
-        self.put(owned);
-        wants
+        }
+        self.held.lend().wants_pause()
     }
 
     /// Does up to so many units of a helper; whether each found work.
-    pub fn help(&mut self, alloc: Global, units: u32) -> Result<bool, Code>
+    pub fn help(&mut self, units: u32) -> Result<bool, Code>
         ensures { At (Err Code.NoHeap) (HelpsBy units) self.old.held.value self.new.held.value result }
     {
-        let Some(mut owned) = self.take(alloc) else {
+        if !self.is_full() {
             return Err(Code::NoHeap);
-        };
-        let more = owned.help(units);
-        self.put(owned);
-        more
+        }
+        self.held.lend().help(units)
     }
 
     /// How many registers an operation may name: as many as the mutator may whose pass is away. Else no operation is taken up, whatever it names, and
     /// all 256 are told.
     #[inline(always)]
-    pub fn registers(&mut self, alloc: Global) -> u16
+    pub fn registers(&mut self) -> u16
         ensures count { result ≡ registers_in self.old.held.value }
         ensures few { result ≤ REGISTERS }
         ensures kept { self.new.held.value ≡ self.old.held.value }
     {
-        let Some(owned) = self.take(alloc) else {
+        if !self.is_full() {
             return REGISTERS as u16;
-        };
-        let registers = owned.registers();
-        self.put(owned);
-        registers
+        }
+        self.held.lend().registers()
     }
 
     /// Orders an operation.
     #[inline(always)]
-    pub fn operate(&mut self, alloc: Global, request: Result<Op, Code>) -> Told
+    pub fn operate(&mut self, request: Result<Op, Code>) -> Told
         ensures { At (is_only Code.NoHeap) (Operates request) self.old.held.value self.new.held.value result }
     {
-        let Some(mut owned) = self.take(alloc) else {
+        if !self.is_full() {
             return only(Code::NoHeap);
-        };
-        let told = owned.operate(request);
-        self.put(owned);
-        told
+        }
+        self.held.lend().operate(request)
     }
 
     /// Answers with the newest reply, or goes on with the operation that is open.
-    pub fn answer(&mut self, alloc: Global) -> Told
+    pub fn answer(&mut self) -> Told
         ensures { At (is_only Code.NoHeap) Answers self.old.held.value self.new.held.value result }
     {
-        let Some(mut owned) = self.take(alloc) else {
+        if !self.is_full() {
             return only(Code::NoHeap);
-        };
-        let told = owned.answer();
-        self.put(owned);
-        told
+        }
+        self.held.lend().answer()
     }
 }

@@ -227,8 +227,7 @@ impl Holder {
     pub fn open_heap(&mut self, alloc: Global, wishes: &Wishes) -> Code
         ensures { OpensHeap self.old.held.value self.new.held.value wishes.now result }
     {
-        if let Some(owned) = self.take(alloc) {
-            self.put(owned);
+        if self.is_full() {
             return Code::InUse;
         }
         match boxed_heap(alloc, wishes) {
@@ -259,35 +258,29 @@ impl Holder {
     pub fn resume(&mut self, alloc: Global) -> Code
         ensures { At Code.NoHeap ResumesHeap self.old.held.value self.new.held.value result }
     {
-        let Some(mut owned) = self.take(alloc) else {
+        if !self.is_full() {
             return Code::NoHeap;
-        };
-        let code = owned.resume(alloc);
-        self.put(owned);
-        code
+        }
+        self.held.lend().resume(alloc)
     }
 
     /// Makes a pause, where one is wanted.
-    pub fn pause(&mut self, alloc: Global) -> Code
+    pub fn pause(&mut self) -> Code
         ensures { At Code.NoHeap PausesHeap self.old.held.value self.new.held.value result }
     {
-        let Some(mut owned) = self.take(alloc) else {
+        if !self.is_full() {
             return Code::NoHeap;
-        };
-        let code = owned.pause();
-        self.put(owned);
-        code
+        }
+        self.held.lend().pause()
     }
 
     /// What is counted by a number.
-    pub fn count_pause(&mut self, alloc: Global, number: u32) -> Result<u64, Code>
+    pub fn count_pause(&mut self, number: u32) -> Result<u64, Code>
         ensures { At (Err Code.NoHeap) (CountsPause number) self.old.held.value self.new.held.value result }
     {
-        let Some(owned) = self.take(alloc) else {
+        if !self.is_full() {
             return Err(Code::NoHeap);
-        };
-        let counted = owned.count_pause(number);
-        self.put(owned);
-        counted
+        }
+        self.held.lend().count_pause(number)
     }
 }

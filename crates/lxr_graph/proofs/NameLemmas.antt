@@ -1,6 +1,6 @@
 -- Names sorted by their order stand in it, each once, where each was there once before.
-use Rattle.std.proofs.Common.{◌≡◌, ℕ, ◌+◌, ◌*◌, ◌^◌, ◌<◌, ap, ◌∙◌, sym, arith, false, List, [], ◌∷◌, length, map}
-use Rattle.std.specs.Prelude.{slice_index_or}
+use Rattle.std.proofs.Common.{◌≡◌, ℕ, ◌+◌, ◌*◌, ◌^◌, ◌<◌, refl, ap, ◌∙◌, sym, arith, false, List, [], ◌∷◌, length, map}
+use Rattle.std.specs.Prelude.{◌||◌, slice_index_or}
 use Rattle.std.specs.Cmp.{IsStrictWeakOrder, IsTotalOrder}
 use Rattle.std.specs.List.{AllByRecursion}
 use Rattle.std.specs.List as list
@@ -67,3 +67,17 @@ sorted_items name_of es fs once moved up = sorted_names (map name_of es) (map na
 
 pub same_members : (ns ms : List Name) → IsPermutation ns ms → (n : Name) → has ms n ≡ has ns n
 same_members ns ms moved n = sym (list_any-IsPermutation (same_name n) ns ms moved)
+
+-- what differs from each name of a list isn't there
+none_had : (n : Name) (ns : List Name) → AllByRecursion (λ m. same_name n m ≡ false) ns → has ns n ≡ false
+none_had n [] h = refl
+none_had n (m ∷ ms) h = ap (λ b. b || has ms n) h.0 ∙ none_had n ms h.1
+
+once_each : (ns : List Name) → list.IsDistinct same_name ns → IsDistinct ns
+unfolding list.IsDistinct
+once_each [] h = tt
+once_each (n ∷ ns) h = (none_had n ns h.0, once_each ns h.1)
+
+-- names of which none stands twice stand so in any order
+pub distinct_moved : (ns ms : List Name) → IsPermutation ns ms → IsDistinct ns → IsDistinct ms
+distinct_moved ns ms moved once = once_each ms (IsDistinct-IsPermutation same_name same_flips ns ms moved (distinct ns once))

@@ -9,6 +9,7 @@ use Rattle.std.proofs.lemmas.Bool.{and_parts, and_from, not-true, not_from_false
 use Rattle.std.proofs.lemmas.List.Kept.{IsStrictlySortedBy-filter}
 use Rattle.std.proofs.lemmas.Bool.Decides.{nat_tests}
 use Rattle.lxr_layout.specs.declared.Name.{Name}
+use Rattle.lxr_graph.specs.Distinct.{IsDistinct}
 use Rattle.lxr_graph.specs.Names.{same_name, has, without, insert_name, union, name_order, AreInOrder, IsSetOf}
 
 -- ---- tests
@@ -57,6 +58,15 @@ order_through : (a b c : Name) → name_order a b ≡ Less → name_order b c �
 order_through a b c h k = grind (arith, nat_tests)
 
 -- ---- what a list has
+
+pub first_has : (n : Name) (ns : List Name) → IsTrue (has (n ∷ ns) n)
+first_has n ns = or_left (same_name n n) (has ns n) (same_itself n)
+
+pub later_has : (n : Name) (ns : List Name) (q : Name) → IsTrue (has ns q) → IsTrue (has (n ∷ ns) q)
+later_has n ns q h = or_right (same_name q n) (has ns q) h
+
+pub has_split : (n : Name) (ns : List Name) (q : Name) → IsTrue (has (n ∷ ns) q) → (q ≡ n) ⊎ IsTrue (has ns q)
+has_split n ns q h = elim (or_cases (same_name q n) (has ns q) h) [ inl e ↦ inl (same_names q n e) | inr k ↦ inr k ]
 
 has-insert : (n : Name) (ms : List Name) (q : Name) → has (insert_name n ms) q ≡ (same_name q n || has ms q)
 has-insert n [] q = refl
@@ -171,6 +181,12 @@ behind n (m ∷ ms) q a h = elim (or_cases (same_name q m) (has ms q) h) [
   | inr k ↦ behind n ms q a.1 k
 ]
 
+-- names in order stand there once each
+pub in_order_distinct : (ns : List Name) → AreInOrder ns → IsDistinct ns
+unfolding IsStrictlySortedBy
+in_order_distinct [] o = tt
+in_order_distinct (n ∷ ns) o = (false_from_ne_true (has ns n) (λ h. order_itself n (behind n ns n o.0 h)), in_order_distinct ns o.1)
+
 -- what a list has behind its first name, another list with the same names and that first name has behind it too
 tail_names : (n : Name) (ns ms : List Name) (q : Name) → AllByRecursion (λ m. name_order n m ≡ Less) ns
     → (IsTrue (has (n ∷ ns) q) → IsTrue (has (n ∷ ms) q)) → IsTrue (has ns q) → IsTrue (has ms q)
@@ -179,15 +195,12 @@ tail_names n ns ms q a f h = elim (or_cases (same_name q n) (has ms q) (f (or_ri
   | inr k ↦ k
 ]
 
-first_name : (n : Name) (ns : List Name) → IsTrue (has (n ∷ ns) n)
-first_name n ns = or_left (same_name n n) (has ns n) (same_itself n)
-
 same_firsts : (n m : Name) (ns ms : List Name) → AreInOrder (n ∷ ns) → AreInOrder (m ∷ ms)
     → ((q : Name) → IsTrue (has (n ∷ ns) q) ↔ IsTrue (has (m ∷ ms) q)) → n ≡ m
 unfolding IsStrictlySortedBy
-same_firsts n m ns ms o p same = elim (or_cases (same_name n m) (has ms n) ((same n).0 (first_name n ns))) [
+same_firsts n m ns ms o p same = elim (or_cases (same_name n m) (has ms n) ((same n).0 (first_has n ns))) [
   | inl e ↦ same_names n m e
-  | inr h ↦ elim (or_cases (same_name m n) (has ns m) ((same m).1 (first_name m ms))) [
+  | inr h ↦ elim (or_cases (same_name m n) (has ns m) ((same m).1 (first_has m ms))) [
     | inl e ↦ sym (same_names m n e)
     | inr k ↦ order_both n m (behind n ns m o.0 k) (behind m ms n p.0 h)
   ]
@@ -196,8 +209,8 @@ same_firsts n m ns ms o p same = elim (or_cases (same_name n m) (has ms n) ((sam
 pub one_list : (ns ms : List Name) → AreInOrder ns → AreInOrder ms → ((q : Name) → IsTrue (has ns q) ↔ IsTrue (has ms q)) → ns ≡ ms
 unfolding IsStrictlySortedBy
 one_list [] [] o p same = refl
-one_list [] (m ∷ ms) o p same = let h : IsTrue (has [] m) = (same m).1 (first_name m ms) in absurd (cc)
-one_list (n ∷ ns) [] o p same = let h : IsTrue (has [] n) = (same n).0 (first_name n ns) in absurd (cc)
+one_list [] (m ∷ ms) o p same = let h : IsTrue (has [] m) = (same m).1 (first_has m ms) in absurd (cc)
+one_list (n ∷ ns) [] o p same = let h : IsTrue (has [] n) = (same n).0 (first_has n ns) in absurd (cc)
 one_list (n ∷ ns) (m ∷ ms) o p same =
     let e : n ≡ m = same_firsts n m ns ms o p same in
     let p' : AreInOrder (n ∷ ms) = subst (λ x. AreInOrder (x ∷ ms)) (sym e) p in

@@ -9,7 +9,7 @@ ghost use Rattle.lxr_layout.specs.declared.Name.{Name};
 ghost use Rattle.lxr_graph.specs.Names.{AreInOrder, has, name_order};
 ghost use Rattle.lxr_graph.specs.Distinct.{IsDistinct};
 
-use crate::{Count, Names};
+use crate::Count;
 use lxr_base::Listed;
 use lxr_layout::Name;
 use std::cmp::Ordering;
@@ -119,7 +119,7 @@ pub fn sort_by_name<T: Named>(list: &mut Listed<T>)
 }
 
 /// Puts names, each of which is there once, into their order.
-pub fn sort_names(names: &mut Names)
+pub fn sort_names(names: &mut Listed<Name>)
     requires { IsDistinct names.old.items }
     ensures sorted { AreInOrder names.new.items }
     ensures members { (n : Name) → has names.new.items n ≡ has names.old.items n }

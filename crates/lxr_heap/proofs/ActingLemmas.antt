@@ -13,6 +13,7 @@ use Rattle.lxr_graph.specs.declared.Reply.{Reply}
 use Rattle.lxr_graph.specs.declared.Reply.TheVariants as reply
 use Rattle.lxr_image.specs.declared.space.Space.{Space}
 use Rattle.lxr_invariant.specs.AbstractState.{members}
+use Rattle.lxr_one_pause.specs.Settling.{survived}
 use Rattle.lxr_direct.specs.Operating.{FindsLogFull, FindsNoRoom, IsDone, IsOfFirstVersion}
 use Rattle.lxr_large_model.specs.declared.TheConstants.{MOST_BODY_BLOCKS}
 use Rattle.lxr_large_model.specs.declared.Acted.{Acted}
@@ -28,19 +29,20 @@ use Rattle.lxr_large_model.specs.Step.{get_from, got, put_at, put_to, word_in as
 use Rattle.lxr_large_bodies.specs.Bodies.{Body, Held, IsFreeRun, body_of, fresh, with_placed, with_words, word_at}
 use Rattle.lxr_heap.specs.declared.heap.Heap.{Heap}
 use Rattle.lxr_heap.specs.Acting.{Acts, FindsNoPlace, IsReplied, made_by}
-use Rattle.lxr_heap.specs.Holding.{IsHeapOf, StandAt, StayInPlace, abstract_after, made_with, terms_of}
-use Rattle.lxr_heap.proofs.CallLemmas.{done_get, done_large, done_no_put, done_put, done_small, held_is_kept, held_word, lines_full, refused_big, refused_new}
+use Rattle.lxr_heap.specs.Holding.{IsHeapOf, StandAt, StayInPlace, abstract_of, made_with, terms_of}
+use Rattle.lxr_heap.proofs.CallLemmas.{done_get, done_large, done_no_put, done_put, done_small, held_is_kept, held_word, lines_full, refused_big, refused_new, stands_then}
+use Rattle.lxr_heap.proofs.EarlyLemmas.{log_alike}
 use Rattle.lxr_heap.proofs.FullLemmas.{blocks_full}
-use Rattle.lxr_heap.proofs.HeapLemmas.{IsStep, behind, is_step_of, keeps_beside, other_names, same_terms}
+use Rattle.lxr_heap.proofs.HeapLemmas.{IsStep, behind, is_step_of, keeps_beside, other_names, same_terms, standing}
 use Rattle.lxr_heap.proofs.BodyLemmas.{held_names}
 use Rattle.lxr_heap.proofs.StayLemmas.{stay_changed, stay_placed, stay_same}
 
 -- ---- places
 
 -- a call that leaves the space as it was, and leads to the same moment
-still : (space : Space) (h : List LargeItem) (o : LargeOp) (r : LargeReply) → ((at : Name → ℕ) → StandAt space h at → StandAt space (Called o r ∷ h) at)
-    → StayInPlace space space h (Called o r ∷ h) (members (large_moment h))
-still space h o r same = λ at stands. (at, same at stands, λ n old kept. refl)
+still : (x y : Heap) (h : List LargeItem) (o : LargeOp) (r : LargeReply) → ((at : Name → ℕ) → StandAt x h at → StandAt y (Called o r ∷ h) at)
+    → StayInPlace x y h (Called o r ∷ h) (members (survived (large_moment h) x.gone.items))
+still x y h o r same = λ at stands. (at, same at stands, λ n old kept. refl)
 
 -- ---- an operation on the object graph
 
@@ -50,19 +52,20 @@ place_room x (op.New dest shape) full = full
 place_room x o full = absurd full
 
 pub replied_small : (x : Heap) (h : List LargeItem) (is : IsHeapOf x h) (space : Space) (o : Op) (r : Reply) (made : ℕ) → IsFormedFor x.space.limits.registers o → IsOfFirstVersion o → made ≡ made_with x.made r
-    → ((at : Name → ℕ) → StandAt x.space h at → IsDone x.space space (abstract_after h at) 1 o r) → ¬ FindsNoRoom x.space o × ¬ FindsLogFull x.space (large_moment h) 1 o
+    → ((at : Name → ℕ) → StandAt x h at → IsDone x.space space (abstract_of x h at) 1 o r) → ¬ FindsNoRoom x.space o × ¬ FindsLogFull x.space (survived (large_moment h) x.gone.items) 1 o
     → IsReplied x (behind x space x.bodies made) h (large_op.Small o) (large_reply.Small r)
 replied_small x h is space o r made formed first count done finds =
-    let here = done is.at is.rests in
+    let here = done is.at is.stands in
     let st : IsStep (terms_of x) h o r = is_step_of (terms_of x) h (large_moment h) o r is.state here.reply in
     record {
       holds = subst (λ k. IsHeapOf (behind x space x.bodies k) (Called (large_op.Small o) (large_reply.Small r) ∷ h)) (sym count) (done_small x h is space o r formed first here);
       refused = (λ f. absurd (st.refused f), λ p. absurd (finds.0 (place_room x o p)));
       fresh = λ f. absurd (st.refused f);
-      logged = finds.1;
+      logged = λ full. finds.1 ((log_alike (large_moment h) x.gone.items is.follows is.gone x.space 1 o).1 full);
       made = count;
       reported = ap (λ (s : Space). s.report) here.keeps;
-      placed = λ at stands. let d = done at stands in (d.at, d.rests, λ n old kept. d.stay n old);
+      gone = refl;
+      placed = λ at stands. let d = done at stands in (d.at, stands_then x h (standing x h is at stands) space o r d, λ n old kept. d.stay n old);
       stay = stay_same x.bodies.bodies;
       terms = same_terms x space x.bodies made (keeps_beside x.space space here.keeps) refl;
     }
@@ -82,7 +85,8 @@ no_place_small x h is (op.New dest shape) formed full = elim x.fresh as (λ c. x
         logged = λ no. no;
         made = refl;
         reported = refl;
-        placed = still x.space h (large_op.Small (op.New dest shape)) (large_reply.Small reply.Full) (λ at stands. stands);
+        gone = refl;
+        placed = still x x h (large_op.Small (op.New dest shape)) (large_reply.Small reply.Full) (λ at stands. stands);
         stay = stay_same x.bodies.bodies;
         terms = refl;
       }
@@ -120,7 +124,8 @@ no_place_big x h is dest blocks small range none = elim x.fresh as (λ c. x.fres
         logged = λ no. no;
         made = refl;
         reported = refl;
-        placed = still x.space h (large_op.Big dest blocks) large_reply.Full (λ at stands. stands);
+        gone = refl;
+        placed = still x x h (large_op.Big dest blocks) large_reply.Full (λ at stands. stands);
         stay = stay_same x.bodies.bodies;
         terms = refl;
       }
@@ -133,9 +138,9 @@ no_place_big x h is dest blocks small range none = elim x.fresh as (λ c. x.fres
 
 pub replied_big : (x : Heap) (h : List LargeItem) (is : IsHeapOf x h) (space : Space) (held' : Held) (n : Name) (dest blocks first : ℕ) → dest < x.space.limits.registers → (1 ≤ blocks) × (blocks ≤ MOST_BODY_BLOCKS)
     → IsFreeRun x.bodies first blocks → held' ≡ record x.bodies { bodies = with_placed x.bodies.bodies (fresh n first blocks) } → ¬ FindsNoPlace x (large_op.Big dest blocks) → n ≡ record { thread = 1; serial = x.made + 1 }
-    → ((at : Name → ℕ) → StandAt x.space h at → IsDone x.space space (abstract_after h at) 1 (op.New dest handle) (reply.New n)) → IsReplied x (behind x space held' (x.made + 1)) h (large_op.Big dest blocks) (large_reply.Big n)
+    → ((at : Name → ℕ) → StandAt x h at → IsDone x.space space (abstract_of x h at) 1 (op.New dest handle) (reply.New n)) → IsReplied x (behind x space held' (x.made + 1)) h (large_op.Big dest blocks) (large_reply.Big n)
 replied_big x h is space held' n dest blocks first small range run placed some named done =
-    let here = done is.at is.rests in
+    let here = done is.at is.stands in
     subst (λ (held : Held). IsReplied x (behind x space held (x.made + 1)) h (large_op.Big dest blocks) (large_reply.Big n)) (sym placed) (record {
       holds = done_large x h is space n dest blocks first small range run named here;
       refused = (λ no. absurd no, λ p. absurd (some p));
@@ -143,7 +148,8 @@ replied_big x h is space held' n dest blocks first small range run placed some n
       logged = λ no. no;
       made = refl;
       reported = ap (λ (s : Space). s.report) here.keeps;
-      placed = λ at stands. let d = done at stands in (d.at, d.rests, λ n old kept. d.stay n old);
+      gone = refl;
+      placed = λ at stands. let d = done at stands in (d.at, stands_then x h (standing x h is at stands) space (op.New dest handle) (reply.New n) d, λ n old kept. d.stay n old);
       stay = stay_placed x.bodies.bodies (fresh n first blocks) (subst (λ q. body_of x.bodies.bodies q ≡ None) (sym named) (next_has_none x h is));
       terms = same_terms x space (record x.bodies { bodies = with_placed x.bodies.bodies (fresh n first blocks) }) (x.made + 1) (keeps_beside x.space space here.keeps) refl;
     })
@@ -181,7 +187,8 @@ replied_get x h is base i v r small e told = record {
   logged = λ no. no;
   made = sym (get_makes x.made (large_state h) i v) ∙ ap (made_by x.made) told;
   reported = refl;
-  placed = still x.space h (large_op.BigGet base i) r (λ at stands. stands);
+  gone = refl;
+  placed = still x (behind x x.space x.bodies x.made) h (large_op.BigGet base i) r (λ at stands. stands);
   stay = stay_same x.bodies.bodies;
   terms = refl;
 }
@@ -199,7 +206,8 @@ replied_no_put x h is base i value v r small e told = record {
   logged = λ no. no;
   made = sym (put_makes x.made (large_state h) i value v) ∙ ap (λ (p : LargeState × LargeReply). made_by x.made p.1) told;
   reported = refl;
-  placed = still x.space h (large_op.BigPut base i value) r (λ at stands. stands);
+  gone = refl;
+  placed = still x (behind x x.space x.bodies x.made) h (large_op.BigPut base i value) r (λ at stands. stands);
   stay = stay_same x.bodies.bodies;
   terms = refl;
 }
@@ -226,7 +234,8 @@ replied_put x h is base i value n found held' small e told changed =
           logged = λ no. no;
           made = refl;
           reported = refl;
-          placed = still x.space h (large_op.BigPut base i value) large_reply.Put (λ at stands. stands);
+          gone = refl;
+          placed = λ at stands. (at, stands, λ n old kept. refl);
           stay = stay_changed n (λ words. slice_set words i value) x.bodies.bodies;
           terms = refl;
         })

@@ -227,6 +227,7 @@ writes_nil x h is base i words none = record {
   unchanged = λ other. refl;
   made = refl;
   space = refl;
+  gone = refl;
   stay = stay_same x.bodies.bodies;
   terms = refl;
 }
@@ -239,6 +240,7 @@ writes_past x h is base i words n there none = record {
   unchanged = λ other. refl;
   made = refl;
   space = refl;
+  gone = refl;
   stay = stay_same x.bodies.bodies;
   terms = refl;
 }
@@ -251,6 +253,7 @@ writes_done x h is base i words n small there some = record {
   unchanged = λ other. absurd (other refl);
   made = refl;
   space = refl;
+  gone = refl;
   stay = stay_changed n (overwritten i words) x.bodies.bodies;
   terms = refl;
 }

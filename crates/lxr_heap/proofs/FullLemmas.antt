@@ -70,7 +70,7 @@ blocks_full x h k is some fresh none =
     let sums = same_sums (λ n. slots_by k (body_of bs n)) (λ n. body_slots k (large_of s.large n)) ns (λ n member.
     slots_words x.bodies.blocks k (body_of bs n) (λ b found. found_whole x.bodies.blocks bs n b is.apart found) ∙ ap (body_slots k) (words_same m bs s.large n is.bodies (kept n member))) in (
       ns,
-      subst (λ (z : State). IsSetOf ns (λ o. Reachable z o × (o ≢ world_name))) is.state (reachable_set m is.rests.safepoint.holds.follows.unreclaimed c),
+      subst (λ (z : State). IsSetOf ns (λ o. Reachable z o × (o ≢ world_name))) is.state (reachable_set m is.follows.unreclaimed c),
       subst (λ t. x.bodies.blocks / k ≤ t) sums left,
     )
   where

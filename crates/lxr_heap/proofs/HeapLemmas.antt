@@ -29,7 +29,7 @@ use Rattle.lxr_large_bodies.specs.Bodies.{Held, rank_of}
 use Rattle.lxr_large_bodies.specs.Kept.{HoldsBodies}
 use Rattle.lxr_heap.specs.declared.heap.Heap.{Heap}
 use Rattle.lxr_heap.specs.Acting.{IsRefusal}
-use Rattle.lxr_heap.specs.Holding.{IsHeapOf, IsMade, StandAt, abstract_after, made_with, terms_of}
+use Rattle.lxr_heap.specs.Holding.{IsHeapOf, IsMade, StandAt, abstract_of, made_with, terms_of}
 use Rattle.lxr_heap.proofs.BodyLemmas.{held_still, made_still}
 use Rattle.lxr_heap.proofs.RowLemmas.{step_counts}
 
@@ -39,19 +39,19 @@ pub one_thread : (x : Heap) (h : List LargeItem) → IsHeapOf x h → x.space.li
 one_thread x h is = ap (λ l. l.threads) is.limits
 
 -- the thread may do an operation, and its next object has the next number
-pub may_operate : (x : Heap) (h : List LargeItem) → (is : IsHeapOf x h) → MayOperate x.space (abstract_after h is.at) 1 (x.made + 1)
+pub may_operate : (x : Heap) (h : List LargeItem) → (is : IsHeapOf x h) → MayOperate x.space (abstract_of x h is.at) 1 (x.made + 1)
 may_operate x h is =
     let one = one_thread x h is in
     record {
-      rests = is.rests;
+      rests = is.stands.0;
       untraced = is.untraced;
       thread = (omega arith, omega (arith, one));
       next = ap (λ (s : State). next_name s.graph 1) is.state ∙ is.next;
     }
 
 -- a heap of a history is that with its objects at any places where they stand
-abbrev pub standing : (x : Heap) (h : List LargeItem) → IsHeapOf x h → (at : Name → ℕ) → StandAt x.space h at → IsHeapOf x h
-standing x h is at stands = record is { at = at; rests = stands }
+abbrev pub standing : (x : Heap) (h : List LargeItem) → IsHeapOf x h → (at : Name → ℕ) → StandAt x h at → IsHeapOf x h
+standing x h is at stands = record is { at = at; stands = stands }
 
 -- ---- what depends on the state alone
 

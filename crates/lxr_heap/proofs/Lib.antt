@@ -7,10 +7,13 @@ pub mod CountLemmas
 pub mod StayLemmas
 pub mod HeapLemmas
 pub mod SameLemmas
+pub mod EarlyLemmas
+pub mod OutsLemmas
 pub mod CallLemmas
 pub mod FullLemmas
 pub mod ActingLemmas
 pub mod PausingLemmas
+pub mod WorkingLemmas
 pub mod OpeningLemmas
 pub mod BulkLemmas
 pub mod LookingLemmas
@@ -21,3 +24,4 @@ pub mod NumberLemmas
 pub mod WantingLemmas
 pub mod TryingLemmas
 pub mod AsideLemmas
+pub mod TrimmingLemmas

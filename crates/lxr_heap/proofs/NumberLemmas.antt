@@ -17,7 +17,7 @@ use Rattle.lxr_large_model.specs.Step.{large_after, large_step, put_at, put_to, 
 use Rattle.lxr_large_model.proofs.HistoryLemmas.{same_number}
 use Rattle.lxr_heap.specs.declared.heap.Heap.{Heap}
 use Rattle.lxr_heap.specs.Acting.{IsCallable}
-use Rattle.lxr_heap.specs.Holding.{IsHeapOf, abstract_after, made_with}
+use Rattle.lxr_heap.specs.Holding.{IsHeapOf, abstract_of, made_with}
 use Rattle.lxr_heap.specs.Pausing.{PausesHeap}
 use Rattle.lxr_heap.proofs.HeapLemmas.{one_thread}
 use Rattle.lxr_heap.proofs.MomentLemmas.{two_rows}
@@ -27,7 +27,7 @@ use Rattle.lxr_heap.proofs.RowLemmas.{make_counts, step_counts}
 
 -- a heap has made as many pauses as its history has
 pub pauses_are : (x : Heap) (h : List LargeItem) → IsHeapOf x h → x.space.pauses ≡ (large_moment h).number
-pauses_are x h is = is.rests.safepoint.numbers.pauses
+pauses_are x h is = is.stands.0.safepoint.numbers.pauses
 
 -- a call makes none
 pub called_pauses : (x y : Heap) (h : List LargeItem) (o : LargeOp) (r : LargeReply) → IsHeapOf x h → IsHeapOf y (Called o r ∷ h) → y.space.pauses ≡ x.space.pauses
@@ -86,7 +86,7 @@ made_are x h is = let serial = ap (λ (n : Name). n.serial) is.next in omega (ar
 -- a call makes one at most
 pub called_makes : (x y : Heap) (h : List LargeItem) (o : LargeOp) (r : LargeReply) → IsHeapOf x h → IsHeapOf y (Called o r ∷ h) → IsCallable o → y.made ≤ x.made + 1
 called_makes x y h o r is then may =
-    let two = two_rows x.space (abstract_after h is.at) is.rests (one_thread x h is) in
+    let two = two_rows x.space (abstract_of x h is.at) is.stands.0 (one_thread x h is) in
     let same = ap (λ (z : State). length z.graph) is.state in
     let rows : 1 < length (large_state h).small.graph = omega (arith, two, same) in
     let more = call_makes (large_state h) o r rows may in

@@ -7,14 +7,17 @@ use Rattle.std.proofs.lemmas.List.{length-map}
 use Rattle.lxr_layout.specs.declared.Name.{Name}
 use Rattle.lxr_layout.specs.declared.TheConstants.{DECREMENT_COUNT}
 use Rattle.lxr_layout.specs.declared.limits.Limits.{Limits}
-use Rattle.lxr_graph.specs.Names.{AreInOrder, has, same_name}
+use Rattle.lxr_graph.specs.declared.report.Report.{Report}
+use Rattle.lxr_graph.specs.Names.{AreInOrder, has, same_name, without}
 use Rattle.lxr_graph.specs.State.{State, object_at, world_name}
 use Rattle.lxr_image.specs.declared.space.Space.{Space}
 use Rattle.lxr_image.specs.Opened.{no_tally}
+use Rattle.lxr_image.specs.Spaces.{tables_of}
 use Rattle.lxr_image.specs.Tables.{Tables}
 use Rattle.lxr_model.specs.Moments.{Moment}
 use Rattle.lxr_model.specs.Reachable.{Reachable, Refers, held}
 use Rattle.lxr_model_counting.proofs.DistinctLemmas.{later_has}
+use Rattle.lxr_invariant.specs.AbstractState.{leaving}
 use Rattle.lxr_invariant.specs.Quiescent.{IsAtRest}
 use Rattle.lxr_full.specs.Room.{HasWorld}
 use Rattle.lxr_large_model.specs.Full.{IsFresh}
@@ -27,7 +30,6 @@ use Rattle.lxr_large_model.specs.State.{Large}
 use Rattle.lxr_large_bodies.specs.Bodies.{AreAmong, Body, renamed}
 use Rattle.lxr_large_bodies.specs.Kept.{HoldsBodies, Kept, kept_of}
 use Rattle.lxr_renew.specs.Renewing.{MayRenew, Renews}
-use Rattle.lxr_renew.proofs.FewLemmas.{unreclaimed_few}
 use Rattle.lxr_renew.proofs.NameLemmas.{begins_with_world, has_map, map_has, renewed_one, same_renewed}
 use Rattle.lxr_renew.proofs.StateLemmas.{IsLeft, reachable_still}
 use Rattle.lxr_large_model.proofs.SerialLemmas.{serial_tells}
@@ -36,10 +38,12 @@ use Rattle.lxr_heap.specs.Holding.{AreApart, IsCollected, IsHeapOf, IsMade, IsOt
 use Rattle.lxr_heap.specs.Renewing.{RenewsHeap}
 use Rattle.lxr_heap.specs.Telling.{TellsHeap}
 use Rattle.lxr_heap.proofs.BodyLemmas.{by_tests, held_pass, kept_by}
+use Rattle.lxr_heap.proofs.CallLemmas.{none_gone, rests_whole}
+use Rattle.lxr_heap.proofs.EarlyLemmas.{none_are_gone, without_none}
 use Rattle.lxr_heap.proofs.FullLemmas.{of_thread}
-use Rattle.lxr_heap.proofs.HeapLemmas.{one_thread}
+use Rattle.lxr_heap.proofs.HeapLemmas.{one_thread, standing}
 use Rattle.lxr_heap.proofs.MomentLemmas.{two_rows}
-use Rattle.lxr_heap.proofs.SameLemmas.{rests_told}
+use Rattle.lxr_heap.proofs.SameLemmas.{stands_retold}
 use Rattle.lxr_heap.proofs.TellingLemmas.{same_state, settled}
 
 -- ---- bodies
@@ -116,15 +120,22 @@ module _ (x y : Heap) (h : List LargeItem) (fresh : IsTrue x.fresh) (tells : Tel
   abbrev m : Moment
   m = large_moment h
 
-  abbrev f : IsFresh h
+  abbrev pub f : IsFresh h
   f = is.fresh.0 (ap (λ (z : Heap). z.fresh) tells.heap ∙ fresh)
 
   abbrev c : IsCollected m
   c = is.collected f
 
+  -- nothing is gone
+  none : y.gone.items ≡ []
+  none = none_gone y h is f
+
+  all_left : without m.unreclaimed x.gone.items ≡ m.unreclaimed
+  all_left = ap (without m.unreclaimed) (sym (ap (λ (z : Heap). z.gone.items) tells.heap) ∙ none) ∙ without_none m.unreclaimed
+
   -- the names of what is left, but for the world's
   pub left_names : (ns : List Name) × (m.unreclaimed ≡ world_name ∷ ns)
-  left_names = let follows = is.rests.safepoint.holds.follows in begins_with_world m.unreclaimed follows.unreclaimed (follows.stuck world_name follows.world)
+  left_names = let follows = is.follows in begins_with_world m.unreclaimed follows.unreclaimed (follows.stuck world_name follows.world)
 
   abbrev pub ns : List Name
   ns = left_names.0
@@ -133,17 +144,17 @@ module _ (x y : Heap) (h : List LargeItem) (fresh : IsTrue x.fresh) (tells : Tel
   names = left_names.1
 
   order : AreInOrder (world_name ∷ ns)
-  order = subst AreInOrder names is.rests.safepoint.holds.follows.unreclaimed
+  order = subst AreInOrder names is.follows.unreclaimed
 
   few : length ns ≤ 2 ^ 27
   few =
-      let most = unreclaimed_few y.space m is.at is.rests.safepoint.holds in
-      let blocks = is.rests.safepoint.holds.space.limits.blocks.1 in
+      let most = is.few in
+      let blocks = is.stands.0.safepoint.holds.space.limits.blocks.1 in
       let long = ap length names in
       omega (arith, most, blocks, long)
 
   pub counted : AreCounted y.space.report.told.items ns
-  counted = record { names = tells.names ∙ names; order = order; few = let k = few in omega (arith, k) }
+  counted = record { names = tells.names ∙ all_left ∙ names; order = order; few = let k = few in omega (arith, k) }
 
   -- one count more than names but the world's
   pub counted_many : length y.space.report.told.items ≡ length ns + 1
@@ -152,10 +163,14 @@ module _ (x y : Heap) (h : List LargeItem) (fresh : IsTrue x.fresh) (tells : Tel
   pub counted_few : length y.space.report.told.items ≤ 2 ^ 27 + 1
   counted_few = let k = few in let all = counted_many in omega (arith, k, all)
 
-  pub may_renew : (at : Name → ℕ) → StandAt y.space h at → MayRenew y.space (abstract_after h at) ns
-  may_renew at stands = record {
-    rests = stands;
-    rows = (let two = two_rows y.space (abstract_after h at) stands (one_thread y h is) in let one = one_thread y h is in omega (arith, two, one));
+  -- so wherever objects stand, the space is at rest for all that the history leads to
+  rests_at : (at : Name → ℕ) → StandAt y h at → IsAtRest y.space (abstract_after h at)
+  rests_at at stands = rests_whole y h (standing y h is at stands) f
+
+  pub may_renew : (at : Name → ℕ) → IsAtRest y.space (abstract_after h at) → MayRenew y.space (abstract_after h at) ns
+  may_renew at rests = record {
+    rests = rests;
+    rows = (let two = two_rows y.space (abstract_after h at) rests (one_thread y h is) in let one = one_thread y h is in omega (arith, two, one));
     settled = settled y h is f;
     untraced = is.untraced;
     names = names;
@@ -163,10 +178,10 @@ module _ (x y : Heap) (h : List LargeItem) (fresh : IsTrue x.fresh) (tells : Tel
   }
 
   -- objects stand where they stood before what is left was told
-  stand_told : (at : Name → ℕ) → StandAt x.space h at → StandAt y.space h at
+  stand_told : (at : Name → ℕ) → StandAt x h at → StandAt y h at
   stand_told at stands =
-      let at_rest : Heap → Type 0 = λ z. IsAtRest z.space (abstract_after h at) in
-      subst at_rest (sym tells.heap) (rests_told x.space (abstract_after h at) y.space.report.told.items stands)
+      let by : Report = record x.space.report { told = record x.space.report.told { items = y.space.report.told.items } } in
+      subst (λ z. StandAt z h at) (sym tells.heap) (stands_retold x h by h (record { moment = refl; state = refl; reported = refl; fresh = (λ g. g, λ g. g) }) at stands)
 
   -- each body is that of one of them
   bodies_left : AllByRecursion (λ (b : Body). IsTrue (has (world_name ∷ ns) b.name)) y.bodies.bodies
@@ -183,7 +198,7 @@ module _ (x y : Heap) (h : List LargeItem) (fresh : IsTrue x.fresh) (tells : Tel
       left (b ∷ bs) all = (one b.name all.0, left bs all.1)
 
   pub among : AreAmong y.space.report.told.items y.bodies.bodies
-  among = subst (λ us. AllByRecursion (λ (b : Body). IsTrue (has us b.name)) y.bodies.bodies) (sym (tells.names ∙ names)) bodies_left
+  among = subst (λ us. AllByRecursion (λ (b : Body). IsTrue (has us b.name)) y.bodies.bodies) (sym (tells.names ∙ all_left ∙ names)) bodies_left
 
   -- exactly the large names that are left are kept
   large_left : (ls : List Large) → AllByRecursion (λ (l : Large). l.name.thread ≡ 1) ls → AllByRecursion (λ (l : Large). (has m.unreclaimed l.name || has m.made l.name) ≡ has ns l.name) ls
@@ -203,7 +218,7 @@ module _ (x y : Heap) (h : List LargeItem) (fresh : IsTrue x.fresh) (tells : Tel
   -- what is left holds and refers to itself alone
   is_left : IsLeft ns order m.state
   is_left =
-      let follows = is.rests.safepoint.holds.follows in
+      let follows = is.follows in
       let same = same_state h f in
       record {
         held = λ n holds. subst (λ us. IsTrue (has us n)) names ((c.exactly n).1 (held holds));
@@ -211,9 +226,9 @@ module _ (x y : Heap) (h : List LargeItem) (fresh : IsTrue x.fresh) (tells : Tel
             (follows.closed u n (subst (λ us. IsTrue (has us u)) (sym names) member) (subst (λ (s : State). Refers s.graph u n) (sym same) refers));
       }
 
-  module _ (space : Space) (renews : (at : Name → ℕ) → StandAt y.space h at → Renews y.space space (abstract_after h at) ns) (left : ℕ) (all : left ≡ length ns) where
+  module _ (space : Space) (renews : (at : Name → ℕ) → IsAtRest y.space (abstract_after h at) → Renews y.space space (abstract_after h at) ns) (left : ℕ) (all : left ≡ length ns) where
     abbrev r : Renews y.space space (abstract_after h is.at) ns
-    r = renews is.at is.rests
+    r = renews is.at (rests_at is.at is.stands)
 
     abbrev after : Heap
     after = record y { space = space; bodies = record y.bodies { bodies = map (renamed ns) y.bodies.bodies }; made = left; made_before = left; left = left }
@@ -221,16 +236,31 @@ module _ (x y : Heap) (h : List LargeItem) (fresh : IsTrue x.fresh) (tells : Tel
     keeps : space.limits ≡ y.space.limits
     keeps = ap (λ (s : Space). s.limits) r.space
 
-    none : space.pauses ≡ 0
-    none = ap (λ (s : Space). s.pauses) r.space
+    no_pauses : space.pauses ≡ 0
+    no_pauses = ap (λ (s : Space). s.pauses) r.space
 
-    stand_renewed : (at : Name → ℕ) (stands : StandAt y.space h at) → StandAt space (Renewed ns ∷ h) (renews at stands).at
-    stand_renewed at stands =
-        let s = renews at stands in
+    rests_renewed : (at : Name → ℕ) (rests : IsAtRest y.space (abstract_after h at)) → IsAtRest space (abstract_after (Renewed ns ∷ h) (renews at rests).at)
+    rests_renewed at rests =
+        let s = renews at rests in
         subst (λ t. IsAtRest space (record { moment = renewed_moment t ns m; at = s.at; reported = last_report h })) (one_thread y h is) s.rests
 
-    rests : StandAt space (Renewed ns ∷ h) r.at
-    rests = stand_renewed is.at is.rests
+    -- no line is out, as nothing was made
+    none_out : (line : ℕ) → IsTrue ((tables_of space).outs line) → ⊥
+    none_out line out =
+        let was : IsTrue ((tables_of y.space).outs line) = subst (λ (t : Tables). IsTrue (t.outs line)) r.tables out in
+        let taken = is.stands.1.taken line was in
+        let no : false ≡ true = subst (λ ms. IsTrue (has ms taken.0)) c.made taken.3 in
+        absurd (cc)
+
+    stand_renewed : (at : Name → ℕ) (rests : IsAtRest y.space (abstract_after h at)) → StandAt after (Renewed ns ∷ h) (renews at rests).at
+    stand_renewed at rests = (
+      subst (λ us. IsAtRest space (record { moment = leaving (renewed_moment 1 ns m) us; at = (renews at rests).at; reported = last_report h }))
+          (sym (ap (without (renewed_moment 1 ns m).unreclaimed) none ∙ without_none (renewed_moment 1 ns m).unreclaimed)) (rests_renewed at rests),
+      record { taken = λ line out. absurd (none_out line out); outside = λ line out. absurd (none_out line out) },
+    )
+
+    rests : IsAtRest space (abstract_after (Renewed ns ∷ h) r.at)
+    rests = rests_renewed is.at (rests_at is.at is.stands)
 
     terms : terms_of after ≡ terms_of y
     terms = λ i. record { blocks = (keeps i).blocks; bodies = y.bodies.blocks; registers = (keeps i).registers }
@@ -267,19 +297,24 @@ module _ (x y : Heap) (h : List LargeItem) (fresh : IsTrue x.fresh) (tells : Tel
       names = ns;
       made = all;
       few = let k = few in omega (arith, k, all);
-      pauses = none;
-      placed = λ at stands. let there = stand_told at stands in let s = renews at there in (s.at, stand_renewed at there, s.stay);
+      pauses = no_pauses;
+      gone = ap (λ (z : Heap). z.gone) tells.heap;
+      placed = λ at stands. let rests = rests_at at (stand_told at stands) in let s = renews at rests in (s.at, stand_renewed at rests, s.stay);
       bodies = ap (λ (z : Heap). record z.bodies { bodies = map (renamed ns) z.bodies.bodies }) tells.heap;
       terms = terms ∙ ap terms_of tells.heap;
-      told = ap (λ (s : Space). map counted_name s.report.told.items) r.space ∙ tells.names ∙ names;
+      told = ap (λ (s : Space). map counted_name s.report.told.items) r.space ∙ tells.names ∙ all_left ∙ names;
       counts = ap (λ (s : Space). s.report.told.items) r.space ∙ tells.counts f;
       holds = record {
         legal = subst (λ t. IsLegalLarge t (Renewed ns ∷ h)) (sym terms) (is.legal, record { fresh = f; names = names });
         at = r.at;
-        rests = rests;
+        stands = stand_renewed is.at (rests_at is.at is.stands);
+        gone = none_are_gone (renewed_moment 1 ns m) y.gone.items none;
+        room = is.room ∙ sym (ap (λ (s : Space). s.report.dead.room) r.space);
+        follows = rests.safepoint.holds.follows;
+        few = (let long = length-map m.unreclaimed (renewed_name ns) in let most = is.few in let blocks = ap (λ (l : Limits). l.blocks) keeps in omega (arith, long, most, blocks));
         untraced = refl;
         limits = keeps ∙ is.limits ∙ ap (λ (l : Limits). limits_of l.blocks l.registers) (sym keeps);
-        tally = ap (λ (s : Space). s.tally) r.space ∙ ap (λ k. record no_tally { pauses = k }) (sym none);
+        tally = ap (λ (s : Space). s.tally) r.space ∙ ap (λ k. record no_tally { pauses = k }) (sym no_pauses);
         state = ap (renewed_state 1 ns) is.state;
         world = world;
         next = ap (λ k. record { thread = 1; serial = k + 1 }) (length-map ns (λ n. renewed_object ns (object_at (large_state h).small.graph n)) ∙ sym all);

@@ -10,7 +10,7 @@ use Rattle.lxr_large_model.specs.declared.LargeOp.TheVariants as large_op
 use Rattle.lxr_large_model.specs.History.{LargeItem, Paused, large_moment}
 use Rattle.lxr_heap.specs.declared.heap.Heap.{Heap}
 use Rattle.lxr_heap.specs.Acting.{FindsNoLog, FindsNoPlace, WantsNoPause, WantsPause}
-use Rattle.lxr_heap.specs.Holding.{IsHeapOf, abstract_after}
+use Rattle.lxr_heap.specs.Holding.{IsHeapOf, abstract_of}
 use Rattle.lxr_heap.specs.Pausing.{PausesHeap}
 
 -- ---- the log
@@ -20,7 +20,7 @@ pub log_room : (x : Heap) (h : List LargeItem) → IsHeapOf x h → x.space.limi
 log_room x h is = ap (λ (l : Limits). l.threads * l.log) is.limits
 
 pub logged_are : (x : Heap) (h : List LargeItem) → (is : IsHeapOf x h) → length (large_moment h).written ≡ length x.space.logged.items
-logged_are x h is = log_is_written x.space (abstract_after h is.at) is.rests.safepoint
+logged_are x h is = log_is_written x.space (abstract_of x h is.at) is.stands.0.safepoint
 
 -- ---- behind a pause that was wanted
 

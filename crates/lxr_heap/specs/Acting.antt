@@ -6,6 +6,7 @@ use Rattle.lxr_blocks.specs.Placing.{IsFull}
 use Rattle.lxr_model.specs.Moments.{Moment}
 use Rattle.lxr_invariant.specs.AbstractState.{members}
 use Rattle.lxr_direct.specs.Operating.{FindsLogFull, IsOfFirstVersion}
+use Rattle.lxr_one_pause.specs.Settling.{survived}
 use Rattle.lxr_large_model.specs.declared.Acted.{Acted}
 use Rattle.lxr_large_model.specs.declared.Acted.TheVariants as acted
 use Rattle.lxr_large_model.specs.declared.LargeOp.{LargeOp}
@@ -59,7 +60,8 @@ made_by made _ = made
 
 -- It was done: the heap is that of the history with this call, which is legal, so the reply is that of a step of the model and the state is the
 -- one after it; or, exactly where no place is found right behind a pause that collected, it was refused as `full`, and nothing has changed. One
--- object more was made where the reply tells of one, no object and no body has moved, and the last pause's report stays, with what was told in it.
+-- object more was made where the reply tells of one, no object and no body has moved, nothing more is gone, and the last pause's report stays,
+-- with what was told in it.
 pub record IsReplied (before after : Heap) (h : List LargeItem) (o : LargeOp) (r : LargeReply) : Type 0 where
   pub holds : IsHeapOf after (Called o r ∷ h)
   pub refused : IsRefusal o r ↔ FindsNoPlace before o
@@ -67,7 +69,8 @@ pub record IsReplied (before after : Heap) (h : List LargeItem) (o : LargeOp) (r
   pub logged : ¬ FindsNoLog before (large_moment h) o
   pub made : after.made ≡ made_by before.made r
   pub reported : after.space.report ≡ before.space.report
-  pub placed : StayInPlace before.space after.space h (Called o r ∷ h) (members (large_moment h))
+  pub gone : after.gone ≡ before.gone
+  pub placed : StayInPlace before after h (Called o r ∷ h) (members (survived (large_moment h) before.gone.items))
   pub stay : StayInBlocks before.bodies.bodies after.bodies.bodies
   pub terms : terms_of after ≡ terms_of before
 

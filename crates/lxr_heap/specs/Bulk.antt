@@ -46,13 +46,14 @@ with_written body_reply.Bad h base i words = h
 with_written body_reply.Range h base i words = h
 
 -- Words were written to the body of what the base register holds, all or none: the heap is that of the history with one `bput` for each of them. So it
--- was done exactly where all of these are replied `ok`. Where it wasn't, nothing has changed; and nothing is made, no body moves, and the space of
--- objects is as it was.
+-- was done exactly where all of these are replied `ok`. Where it wasn't, nothing has changed; and nothing is made or gone, no body moves, and the
+-- space of objects is as it was.
 pub record WritesWords (before after : Heap) (h : List LargeItem) (base i : ℕ) (words : List ℕ) (r : BodyReply) : Type 0 where
   pub reply : r ≡ bulk_reply (large_state h) (base_held h base) i (length words)
   pub holds : IsHeapOf after (with_written r h base i words)
   pub unchanged : r ≢ body_reply.Done → after ≡ before
   pub made : after.made ≡ before.made
   pub space : after.space ≡ before.space
+  pub gone : after.gone ≡ before.gone
   pub stay : StayInBlocks before.bodies.bodies after.bodies.bodies
   pub terms : terms_of after ≡ terms_of before

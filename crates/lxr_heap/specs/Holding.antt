@@ -3,20 +3,25 @@ use Rattle.std.specs.Prelude.{◌≡◌, ℕ, ◌+◌, ◌*◌, ◌≤◌, ◌�
 use Rattle.std.specs.List.{AllByRecursion}
 use Rattle.lxr_layout.specs.declared.limits.Limits.{Limits}
 use Rattle.lxr_layout.specs.declared.Name.{Name}
-use Rattle.lxr_layout.specs.declared.TheConstants.{DECREMENT_COUNT, WORDS_IN_BLOCK}
+use Rattle.lxr_layout.specs.declared.TheConstants.{DECREMENT_COUNT, GRANULES_IN_BLOCK, WORDS_IN_BLOCK}
 use Rattle.lxr_graph.specs.declared.Reply.{Reply}
 use Rattle.lxr_graph.specs.declared.Reply.TheVariants as reply
+use Rattle.lxr_graph.specs.Distinct.{IsDistinct}
 use Rattle.lxr_graph.specs.Names.{has, same_name}
 use Rattle.lxr_graph.specs.History.{PauseReport}
 use Rattle.lxr_graph.specs.State.{next_name}
 use Rattle.lxr_image.specs.declared.space.Space.{Space}
 use Rattle.lxr_image.specs.Opened.{no_tally}
 use Rattle.lxr_image.specs.Spaces.{tables_of}
+use Rattle.lxr_model.specs.Dead.{Dead}
 use Rattle.lxr_model.specs.Moments.{Moment}
 use Rattle.lxr_model.specs.Reachable.{Reachable}
+use Rattle.lxr_model_counting.specs.Following.{FollowsPause}
 use Rattle.lxr_invariant.specs.AbstractState.{AbstractState, members, no_report}
+use Rattle.lxr_invariant.specs.Lines.{OutsAreTaken}
 use Rattle.lxr_invariant.specs.Quiescent.{IsAtRest}
 use Rattle.lxr_full.specs.Room.{HasWorld}
+use Rattle.lxr_one_pause.specs.Settling.{survived}
 use Rattle.lxr_large_model.specs.Full.{IsFresh, LargeTerms}
 use Rattle.lxr_large_model.specs.History.{LargeItem, Called, Paused, Renewed, large_moment, large_state}
 use Rattle.lxr_large_model.specs.Pauses.{IsLegalLarge}
@@ -45,12 +50,18 @@ last_report (Renewed ns ∷ h) = last_report h
 abbrev pub abstract_after : List LargeItem → (Name → ℕ) → AbstractState
 abstract_after h at = record { moment = large_moment h; at = at; reported = last_report h }
 
--- A space stands for what a history leads to, with objects at these places. The header at a place tells the name of its object.
-abbrev pub StandAt : Space → List LargeItem → (Name → ℕ) → Type 0
-StandAt space h at = IsAtRest space (abstract_after h at)
+-- What the space of a heap stands for after a history, with objects at these places: names that are gone since the last pause are reclaimed,
+-- before any report has them.
+abbrev pub abstract_of : Heap → List LargeItem → (Name → ℕ) → AbstractState
+abstract_of x h at = record (abstract_after h at) { moment = survived (large_moment h) x.gone.items }
+
+-- The objects of a heap stand at these places after a history: its space is at rest for what it stands for, and each line that is out is
+-- overlapped by an object that was made since the last pause. The header at a place tells the name of its object.
+abbrev pub StandAt : Heap → List LargeItem → (Name → ℕ) → Type 0
+StandAt x h at = IsAtRest x.space (abstract_of x h at) × OutsAreTaken (tables_of x.space) (large_moment h).state.graph at (large_moment h).made
 
 -- Wherever objects stood, those of these names that are still kept stand there: none of them was moved.
-abbrev pub StayInPlace : Space → Space → List LargeItem → List LargeItem → List Name → Type 0
+abbrev pub StayInPlace : Heap → Heap → List LargeItem → List LargeItem → List Name → Type 0
 StayInPlace before after h k ns = (at : Name → ℕ) → StandAt before h at
     → (at' : Name → ℕ) × StandAt after k at' × ((n : Name) → IsTrue (has ns n) → IsTrue (has (members (large_moment k)) n) → at' n ≡ at n)
 
@@ -97,13 +108,23 @@ pub record CountsObjects (left made_before made : ℕ) (m : Moment) : Type 0 whe
 abbrev pub StayInBlocks : List Body → List Body → Type 0
 StayInBlocks before after = (n : Name) (a b : Body) → body_of before n ≡ Some a → body_of after n ≡ Some b → (b.first ≡ a.first) × (b.blocks ≡ a.blocks)
 
--- A heap is that of a history: its space is at rest for the moment that the history leads to, and no trace runs; its bodies are those of the
--- large names that are kept; it knows how many names were made and how many objects there are, and whether a pause is fresh, where no decrement
--- waits; and the history is legal, so each reply was that of a step, or `full` where it may be, and each report that of its pause.
+-- Names are gone since the last pause: each of them, once, is dead there, so the next pause reports it.
+pub record AreGone (m : Moment) (gone : List Name) : Type 0 where
+  pub once : IsDistinct gone
+  pub dead : (n : Name) → IsTrue (has gone n) → Dead m.last m.unreclaimed m.stuck n
+
+-- A heap is that of a history: its objects stand at places, so its space is at rest for the moment that the history leads to, but that some of
+-- the dead are gone already, and no trace runs; its bodies are those of the large names that are kept, gone or not; it knows how many names were
+-- made and how many objects there are, and whether a pause is fresh, where no decrement waits; and the history is legal, so each reply was that
+-- of a step, or `full` where it may be, and each report that of its pause. What is gone has the room that the dead of a report have.
 pub record IsHeapOf (x : Heap) (h : List LargeItem) : Type 0 where
   pub legal : IsLegalLarge (terms_of x) h
   pub at : Name → ℕ
-  pub rests : StandAt x.space h at
+  pub stands : StandAt x h at
+  pub gone : AreGone (large_moment h) x.gone.items
+  pub room : x.gone.room ≡ x.space.report.dead.room
+  pub follows : FollowsPause (large_moment h)
+  pub few : length (large_moment h).unreclaimed ≤ GRANULES_IN_BLOCK * x.space.limits.blocks
   pub untraced : (large_moment h).trace ≡ None
   pub limits : x.space.limits ≡ limits_of x.space.limits.blocks x.space.limits.registers
   pub tally : x.space.tally ≡ record no_tally { pauses = x.space.pauses }
@@ -118,9 +139,11 @@ pub record IsHeapOf (x : Heap) (h : List LargeItem) : Type 0 where
   pub collected : IsFresh h → IsCollected (large_moment h)
   pub drained : IsFresh h → (tables_of x.space).cursors DECREMENT_COUNT ≡ 0
 
--- a heap without a history yet: one of these blocks, and of these for bodies, whose thread may name so many registers; nothing is told of counts
+-- a heap without a history yet: one of these blocks, and of these for bodies, whose thread may name so many registers; nothing is told of
+-- counts, and nothing is gone
 pub record IsOpenedHeap (x : Heap) (blocks bodies registers : ℕ) : Type 0 where
   pub holds : IsHeapOf x []
   pub made : x.made ≡ 0
   pub terms : terms_of x ≡ record { blocks = blocks; bodies = bodies; registers = registers }
   pub untold : x.space.report.told.items ≡ []
+  pub none_gone : x.gone.items ≡ []

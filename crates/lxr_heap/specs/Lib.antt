@@ -1,9 +1,11 @@
 pub mod Holding
 pub mod Acting
 pub mod Pausing
+pub mod Working
 pub mod Looking
 pub mod Bulk
 pub mod Telling
 pub mod Renewing
 pub mod Known
 pub mod Trying
+pub mod Trimming

@@ -21,8 +21,9 @@ pub record RenewsHeap (before after : Heap) (h : List LargeItem) : Type 0 where
   pub made : after.made ≡ length names
   pub few : after.made ≤ 2 ^ 27
   pub pauses : after.space.pauses ≡ 0
-  pub placed : (at : Name → ℕ) → StandAt before.space h at
-      → (at' : Name → ℕ) × StandAt after.space (Renewed names ∷ h) at' × ((n : Name) → IsTrue (has (large_moment h).unreclaimed n) → at' (renewed_name names n) ≡ at n)
+  pub gone : after.gone ≡ before.gone
+  pub placed : (at : Name → ℕ) → StandAt before h at
+      → (at' : Name → ℕ) × StandAt after (Renewed names ∷ h) at' × ((n : Name) → IsTrue (has (large_moment h).unreclaimed n) → at' (renewed_name names n) ≡ at n)
   pub bodies : after.bodies ≡ record before.bodies { bodies = map (renamed names) before.bodies.bodies }
   pub terms : terms_of after ≡ terms_of before
   pub told : map counted_name after.space.report.told.items ≡ world_name ∷ names

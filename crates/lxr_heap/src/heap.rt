@@ -1,4 +1,5 @@
 //! What a heap consists of.
+use lxr_graph::Names;
 use lxr_image::Space;
 use lxr_large_bodies::Bodies;
 
@@ -7,6 +8,9 @@ use lxr_large_bodies::Bodies;
 pub struct Heap {
     pub space: Space,
     pub bodies: Bodies,
+    /// The names that died since the last pause and are reclaimed already: the next pause reports them. It has the room that the dead of a
+    /// report have.
+    pub gone: Names,
     /// How many objects were made.
     pub made: u32,
     /// How many of them were made before the last pause.

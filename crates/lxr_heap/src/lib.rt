@@ -15,10 +15,12 @@ mod opening;
 mod pausing;
 mod renewing;
 mod telling;
+mod trimming;
 mod trying;
+mod working;
 
 ghost use Rattle.std.specs.Prelude.{◌≡◌, ◌↔◌, ◌+◌, ◌-◌, ◌^◌, ◌<◌, ◌≤◌, IfOk, IsTrue, List, [], None, length, unwrap_or};
-ghost use Rattle.lxr_layout.specs.declared.TheConstants.{LEAST_REGISTERS, MOST_BLOCKS, REGISTERS};
+ghost use Rattle.lxr_layout.specs.declared.TheConstants.{DECREMENT_COUNT, LEAST_REGISTERS, MOST_BLOCKS, REGISTERS};
 ghost use Rattle.lxr_graph.specs.State.{register_at};
 ghost use Rattle.lxr_image.specs.Spaces.{tables_of};
 ghost use Rattle.lxr_blocks.specs.Listing.{listed_frees};
@@ -32,7 +34,8 @@ ghost use Rattle.lxr_heap.specs.Holding.{IsHeapOf, IsOpenedHeap};
 ghost use Rattle.lxr_heap.specs.Looking.{IsLook, shape_held};
 ghost use Rattle.lxr_heap.specs.Pausing.{PausesHeap};
 ghost use Rattle.lxr_heap.specs.Renewing.{RenewsHeap};
-ghost use Rattle.lxr_heap.specs.Telling.{TellsHeap};
+ghost use Rattle.lxr_heap.specs.Telling.{TellsHeap, TellsNames};
+ghost use Rattle.lxr_heap.specs.Working.{WorksHeap};
 
 pub use bulk::BodyReply;
 use heap::Heap;
@@ -41,6 +44,7 @@ use lxr_image::Space;
 use lxr_large_bodies::Bodies;
 use lxr_large_model::{Acted, LargeOp, LargeReply};
 use lxr_layout::Shape;
+pub use lxr_pause_decrements::Slice;
 use std::alloc::{AllocError, Global};
 use std::marker::Model;
 
@@ -153,15 +157,35 @@ impl LargeHeap {
         pausing::pause(&mut self.heap, collect)
     }
 
+    /// Does up to so many units of what the next pause would do first, so that less is left to it. A unit lowers the count of one object, by one
+    /// of the decrements that the last pause queued, and reclaims it where it falls to 0; what it refers to waits then. For the history nothing
+    /// happens: the next pause reports as dead what it would have reported, and until then its body is kept. `Done` tells that nothing waits,
+    /// `Spent` that more does. `Held` tells that by the next unit an object would die that has more references than may wait: that is left to
+    /// the pause. It takes no memory.
+    pub fn work(&mut self, units: u32) -> Slice
+        ensures { (h : List LargeItem) → IsHeapOf self.old h → WorksHeap self.old self.new h units result }
+    {
+        working::work(&mut self.heap, units)
+    }
+
     /// Lists the world and each object that the last pause left with its count, or none where it is stuck, in the order of names: in `told`
-    /// of what `report` gives. A count is what the table of counts has. Behind a pause that collected, with nothing but refusals (`full`) and
-    /// renewals between, that is the number of references to the object, as that pause reported it unless names were renewed since. It takes
-    /// no memory: it goes once over the heap's start bits, looks at the header and the count of each of these objects, and sorts them by
-    /// name, in place (n log n).
+    /// of what `report` gives. What died since by `work` is left out. A count is what the table of counts has. After a pause that collected,
+    /// with nothing but refusals (`full`) and renewals between, that is the number of references to the object, as that pause reported it
+    /// unless names were renewed since. It takes no memory: it goes once over the heap's start bits, looks at the header and the count of
+    /// each of these objects, and sorts them by name, in place (n log n).
     pub fn tell_counts(&mut self)
         ensures { (h : List LargeItem) → IsHeapOf self.old h → TellsHeap self.old self.new h }
     {
         telling::tell(&mut self.heap)
+    }
+
+    /// Lists the names that the last pause reported, so that they can be read in what `report` gives: what it promoted, what died, what got
+    /// stuck and what it swept, each in order. A pause leaves them as it found them, since sorting takes longer than finding (n log n). It
+    /// takes no memory, and does nothing where they are listed.
+    pub fn tell_names(&mut self)
+        ensures { (h : List LargeItem) → IsHeapOf self.old h → TellsNames self.old self.new h }
+    {
+        telling::list_names(&mut self.heap)
     }
 
     /// Gives each object that is left a new name, 1.1, 1.2, 1.3, .., in order of the old ones, and counts pauses from 0 again, so that a
@@ -176,7 +200,8 @@ impl LargeHeap {
         renewing::renew(&mut self.heap)
     }
 
-    /// What the last pause reported, with what was told since of the counts of what it left.
+    /// What the last pause reported, with what was told since of the counts of what it left. Its names can be read once they are listed
+    /// (`tell_names`).
     pub fn report(&self) -> &Report
         ensures { result.now ≡ self.now.space.report }
     {
@@ -211,6 +236,13 @@ impl LargeHeap {
         ensures { result + blocks_held self.now.bodies.bodies ≡ self.now.bodies.blocks }
     {
         self.heap.bodies.free_blocks()
+    }
+
+    /// How many decrements wait for the next pause, in the list of decrements.
+    pub fn waiting(&self) -> u64
+        ensures { result ≡ (tables_of self.now.space).cursors DECREMENT_COUNT }
+    {
+        looking::waiting(&self.heap.space)
     }
 
     /// How many objects were made, each with the next serial. An operation asks that this is below 2^32 - 1.

@@ -1,5 +1,6 @@
 //! What a heap tells and no operation asks for: registers, shapes, and how many objects and free blocks there are.
 ghost use Rattle.std.specs.Prelude.{◌≡◌, ◌↔◌, ℕ, ◌+◌, ◌<◌, IsTrue, List, None, length};
+ghost use Rattle.lxr_layout.specs.declared.TheConstants.{DECREMENT_COUNT};
 ghost use Rattle.lxr_graph.specs.State.{register_at};
 ghost use Rattle.lxr_image.specs.Spaces.{IsSpace, tables_of};
 ghost use Rattle.lxr_blocks.specs.Listing.{listed_frees};
@@ -18,7 +19,7 @@ use lxr_direct::{get, is_nil as is_nil_in, name_in, object_in, same};
 use lxr_graph::{Op, Reply};
 use lxr_image::Space;
 use lxr_large_model::{LargeOp, LargeReply};
-use lxr_layout::Shape;
+use lxr_layout::{DECREMENT_COUNT, Shape};
 
 /// Whether a register is nil.
 #[inline(always)]
@@ -97,6 +98,14 @@ pub(crate) fn live(heap: &Heap) -> u32
     ensures { (h : List LargeItem) → IsHeapOf heap.now h → result ≡ length (kept_names (large_moment h)) }
 {
     heap.left + young(heap)
+}
+
+/// How many decrements wait.
+pub(crate) fn waiting(space: &Space) -> u64
+    requires { IsSpace space.now }
+    ensures { result ≡ (tables_of space.now).cursors DECREMENT_COUNT }
+{
+    space.cursor(DECREMENT_COUNT)
 }
 
 /// How many blocks are Free.

@@ -5,9 +5,10 @@ ghost use Rattle.lxr_heap.specs.Holding.{IsOpenedHeap};
 
 use crate::MUTATOR;
 use crate::heap::Heap;
+use lxr_graph::Names;
 use lxr_image::Space;
 use lxr_large_bodies::Bodies;
-use lxr_layout::Limits;
+use lxr_layout::{GRANULES_IN_BLOCK, Limits};
 use std::alloc::{AllocError, Global};
 
 /// How many stores are recorded between two pauses at most.
@@ -35,9 +36,11 @@ pub(crate) fn open(
     };
     let mut space = Space::empty(alloc);
     space.open(alloc, limits)?;
+    let granules = (GRANULES_IN_BLOCK * blocks) as usize;
     Ok(Heap {
         space,
         bodies: Bodies::open(alloc, bodies)?,
+        gone: Names::with_room(alloc, 2 * granules)?,
         made: 0,
         made_before: 0,
         left: 0,

@@ -1,13 +1,15 @@
 //! One pause of a heap.
-ghost use Rattle.std.specs.Prelude.{◌≡◌, ◌≢◌, ◌+◌, ◌^◌, ◌%◌, ◌<◌, ◌≤◌, List, [], if◌then◌else◌, length};
+ghost use Rattle.std.specs.Prelude.{◌≡◌, ◌≢◌, ◌+◌, ◌^◌, ◌%◌, ◌<◌, ◌≤◌, List, [], ◌++◌, if◌then◌else◌, length};
+ghost use Rattle.lxr_graph.specs.Distinct.{IsDistinct};
+ghost use Rattle.lxr_graph.specs.Listing.{without_names};
 ghost use Rattle.lxr_large_model.specs.History.{LargeItem};
 ghost use Rattle.lxr_one_pause.specs.declared.Ask.TheVariants as ask;
 ghost use Rattle.lxr_one_pause.specs.Deciding.{IsPace};
 ghost use Rattle.lxr_heap.specs.Holding.{IsHeapOf};
-ghost use Rattle.lxr_heap.specs.Pausing.{PausesHeap};
+ghost use Rattle.lxr_heap.specs.Pausing.{PausesHeap, with_gone};
 
 use crate::heap::Heap;
-use lxr_graph::Report;
+use lxr_graph::{Names, Report};
 use lxr_one_pause::{Ask, Pace, one_pause};
 
 /// A pace by which no trace begins at the pause of this number: of two numbers that follow each other it is no multiple of both, for a number
@@ -48,8 +50,20 @@ fn left_after(left: u32, report: &Report) -> u32
     left + promoted - gone
 }
 
+/// Reports as dead what was gone before the pause: its names join the dead, in the order of names, and nothing is gone any more.
+fn report_gone(dead: &mut Names, gone: &mut Names)
+    requires once { IsDistinct (dead.old.items ++ gone.old.items) }
+    requires room { length dead.old.items + length gone.old.items ≤ dead.old.room }
+    ensures dead { dead.new ≡ with_gone dead.old gone.old.items }
+    ensures gone { gone.new ≡ without_names gone.old }
+{
+    dead.append(gone);
+    dead.order();
+}
+
 /// Makes a pause. What is unreachable is reclaimed where it is to collect, and else what counts show to be dead; bodies stay where their names
-/// do. It looks at as many registers as hold something now or did at the last pause. Nothing is told of counts.
+/// do. It looks at as many registers as hold something now or did at the last pause. What was gone before it is reported with its dead. Nothing
+/// is told of counts.
 pub(crate) fn pause(heap: &mut Heap, collect: bool)
     requires holds { (h : List LargeItem) × IsHeapOf heap.old h }
     requires number { heap.old.space.pauses + 1 < 2 ^ 32 }
@@ -60,6 +74,7 @@ pub(crate) fn pause(heap: &mut Heap, collect: bool)
     let ask = asked(collect);
     let pace = untraced_pace(heap.space.pauses + 1);
     one_pause(&mut heap.space, ask, pace);
+    report_gone(&mut heap.space.report.dead, &mut heap.gone);
     heap.bodies.after_pause(&heap.space.report);
     heap.left = left_after(heap.left, &heap.space.report);
     heap.made_before = heap.made;

@@ -1,9 +1,9 @@
 -- The registers of all threads, of which a pause looks at those in use.
-use Rattle.std.specs.Prelude.{◌≡◌, ℕ, ◌+◌, ◌*◌, ◌≤◌, List, [], ◌∷◌, ◌++◌, length, nat_eq, take, drop, slice_index_or, if◌then◌else◌}
+use Rattle.std.specs.Prelude.{◌≡◌, ℕ, ◌+◌, ◌*◌, ◌<◌, ◌≤◌, List, [], ◌∷◌, ◌++◌, length, nat_eq, take, drop, slice_index_or, if◌then◌else◌}
 use Rattle.std.specs.List.{All}
 use Rattle.lxr_layout.specs.declared.TheConstants.{REGISTERS}
 use Rattle.lxr_layout.specs.declared.Place.{Place}
-use Rattle.lxr_layout.specs.Registers.{AreNil}
+use Rattle.lxr_layout.specs.Registers.{AreNil, held_at}
 use Rattle.lxr_image.specs.declared.registers.RegisterFile.TheInside.{Inside}
 
 -- what each register holds, the 256 of thread 1 first, and how many of its own a thread may name
@@ -42,3 +42,7 @@ HoldFew r threads = length r.items ≡ REGISTERS * threads → holding r.items �
 -- registers that a thread may not name are nil, thread 1 having number 0
 abbrev pub UnnamedAreNil : Registers → Type 0
 UnnamedAreNil r = (thread : ℕ) → AreNil r.items (REGISTERS * thread + r.width) (REGISTERS * thread + REGISTERS)
+
+-- the registers from one on to below another hold the same in both lists
+abbrev pub AreSame : List Place → List Place → ℕ → ℕ → Type 0
+AreSame places others from end = (k : ℕ) → from ≤ k → k < end → held_at places k ≡ held_at others k

@@ -31,6 +31,10 @@ pub record IsInUsedBlock (s : Space) (at : ℕ) : Type 0 where
   pub block : other / WORDS_IN_BLOCK ≡ at / WORDS_IN_BLOCK
   pub some : (tables_of s).heap other ≢ 0
 
+-- each word of a block is 0
+abbrev pub BlockIsZero : Space → ℕ → Type 0
+BlockIsZero s block = (w : ℕ) → w < WORDS_IN_BLOCK * s.limits.blocks → w / WORDS_IN_BLOCK ≡ block → (tables_of s).heap w ≡ 0
+
 -- no count is above STUCK, and a reuse counter has 32 bits
 pub record AreWithin (t : Tables) : Type 0 where
   pub counts : (g : ℕ) → t.counts g ≤ STUCK

@@ -12,7 +12,7 @@ ghost use Rattle.lxr_layout.specs.Spaces.{AreLimits, all_regions, region_begin};
 
 use crate::{HeapWords, RegisterFile, Space, Tally};
 use lxr_base::{Chronicle, Listed};
-use lxr_graph::{Kind, Report};
+use lxr_graph::{Kind, Names, Report};
 use lxr_layout::{
     FREE_BLOCK_COUNT, GRANULES_IN_BLOCK, GRANULES_IN_LINE, LINES_IN_BLOCK, Limits, Name, RUN_COUNT,
     Run, STUCK, Shape, WORLD_LINES, WORLD_REFS, pack, run_word,
@@ -43,10 +43,10 @@ fn blank_report(alloc: Global, granules: usize) -> Result<Report, AllocError>
     Ok(Report {
         number: 0,
         kind: Kind::Plain,
-        promoted: Listed::with_room(alloc, granules)?,
-        dead: Listed::with_room(alloc, 2 * granules)?,
-        stuck: Listed::with_room(alloc, granules)?,
-        swept: Listed::with_room(alloc, granules)?,
+        promoted: Names::with_room(alloc, granules)?,
+        dead: Names::with_room(alloc, 2 * granules)?,
+        stuck: Names::with_room(alloc, granules)?,
+        swept: Names::with_room(alloc, granules)?,
         counts: Chronicle::new(),
         told: Listed::with_room(alloc, granules)?,
     })
@@ -80,10 +80,10 @@ impl Space {
             report: Report {
                 number: 0,
                 kind: Kind::Plain,
-                promoted: Listed::new(alloc),
-                dead: Listed::new(alloc),
-                stuck: Listed::new(alloc),
-                swept: Listed::new(alloc),
+                promoted: Names::new(alloc),
+                dead: Names::new(alloc),
+                stuck: Names::new(alloc),
+                swept: Names::new(alloc),
                 counts: Chronicle::new(),
                 told: Listed::new(alloc),
             },

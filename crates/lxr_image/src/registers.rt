@@ -8,10 +8,9 @@ ghost use Rattle.lxr_layout.specs.declared.TheConstants.{REGISTERS};
 ghost use Rattle.lxr_graph.specs.State.{opening_registers};
 ghost use Rattle.lxr_image.specs.Opened.{opening_place};
 ghost use Rattle.lxr_layout.specs.Registers.{AreNil, held_at, nil};
-ghost use Rattle.lxr_image.specs.Registers.{HoldFew, UnnamedAreNil, row_in, with_row};
+ghost use Rattle.lxr_image.specs.Registers.{AreSame, HoldFew, UnnamedAreNil, row_in, with_row};
 
-use crate::Space;
-use lxr_layout::{Place, REGISTERS};
+use lxr_layout::{Place, REGISTERS, copy_places};
 use std::alloc::{AllocError, Global};
 use std::marker::Model;
 
@@ -157,7 +156,7 @@ impl RegisterFile {
     {
         let many = usize::from(self.in_use[thread].max(in_use));
         let first = REGISTERS * thread;
-        self.places[first..first + many].copy_from_slice(&row[..many]);
+        copy_places(&mut self.places[first..first + many], row);
         self.in_use[thread] = in_use;
     }
 
@@ -215,26 +214,42 @@ impl RegisterFile {
         index % REGISTERS < usize::from(self.in_use[index / REGISTERS])
     }
 
+    /// The first register from an index on that may hold something else than others do, by its index among all; where none is, how many
+    /// registers there are.
+    pub fn next_changed(&self, others: &RegisterFile, from: usize) -> usize
+        requires as_many { length others.now.items ≡ length self.now.items }
+        requires from { from ≤ length self.now.items }
+        ensures range { (from ≤ result) × (result ≤ length self.now.items) }
+        ensures passed { AreSame self.now.items others.now.items from result }
+    {
+        let mut at = from;
+        while at < self.places.len() && !self.may_differ(others, at) {
+            at = REGISTERS * (at / REGISTERS + 1);
+        }
+        at
+    }
+
+    /// Whether a register, or one of its thread after it, may hold something else than others do: it is among those in use of its thread
+    /// in either, and where no more than one is, it does.
+    #[inline(always)]
+    fn may_differ(&self, others: &RegisterFile, index: usize) -> bool
+        requires as_many { length others.now.items ≡ length self.now.items }
+        requires index { index < length self.now.items }
+        ensures { result ≡ false → AreSame self.now.items others.now.items index (REGISTERS * (index / REGISTERS + 1)) }
+    {
+        let thread = index / REGISTERS;
+        let many = self.in_use[thread].max(others.in_use[thread]);
+        if many > 1 {
+            index % REGISTERS < usize::from(many)
+        } else {
+            self.places[index] != others.places[index]
+        }
+    }
+
     /// No more registers hold something than threads may name.
     pub fn hold_few(&self, threads: u8)
         ensures { HoldFew self.now threads }
     {
         let _ = &self.places;
-    }
-}
-
-impl Space {
-    /// The first register from an index on at which a pause looks, by its index among all; where none is, how many registers there
-    /// are. Those that are passed over are nil, and were so at the last pause.
-    pub fn next_register(&self, from: usize) -> usize
-        requires as_many { length self.now.registers.items ≡ length self.now.deferred.items }
-        requires from { from ≤ length self.now.registers.items }
-        ensures range { (from ≤ result) × (result ≤ length self.now.registers.items) }
-        ensures now { AreNil self.now.registers.items from result }
-        ensures last { AreNil self.now.deferred.items from result }
-    {
-        let now = self.registers.next_in_use(from);
-        let last = self.deferred.next_in_use(from);
-        now.min(last)
     }
 }

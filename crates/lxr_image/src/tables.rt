@@ -3,13 +3,13 @@
 //! Each call says which entry of which table it reads or writes, as an equation of the tables; the places of the
 //! regions among the words are known here alone. A granule, line, block or heap word is given by its number in the
 //! heap, from 0.
-ghost use Rattle.std.specs.Prelude.{◌≡◌, ◌≢◌, ℕ, ◌+◌, ◌*◌, ◌/◌, ◌%◌, ◌^◌, ◌<◌, ◌≤◌, ◌↔◌, ◌==◌, IsBitSet, IsTrue, false, if◌then◌else◌, length, slice_index, true};
+ghost use Rattle.std.specs.Prelude.{◌≡◌, ◌≢◌, ℕ, ◌+◌, ◌*◌, ◌/◌, ◌%◌, ◌^◌, ◌<◌, ◌≤◌, ◌↔◌, ◌==◌, IfNone, IfSome, IsBitSet, IsTrue, false, if◌then◌else◌, length, slice_index, true};
 ghost use Rattle.std.specs.Int.{bit_at};
 ghost use Rattle.lxr_layout.specs.declared.TheConstants.{GRANULES_IN_BLOCK, GRANULES_IN_LINE, LINES_IN_BLOCK, STUCK, WORDS_IN_BLOCK};
 ghost use Rattle.lxr_image.specs.Reads.{is_tracing};
 ghost use Rattle.lxr_image.specs.Runs.{with_runs};
 ghost use Rattle.lxr_image.specs.Settled.{block_of_bit};
-ghost use Rattle.lxr_image.specs.Spaces.{IsInUsedBlock, IsSpace, Turns, bit_region, bit_table, tables_of, with_bit, with_bit_word, with_word, word_region, word_table};
+ghost use Rattle.lxr_image.specs.Spaces.{BlockIsZero, IsInUsedBlock, IsSpace, Turns, bit_region, bit_table, tables_of, with_bit, with_bit_word, with_word, word_region, word_table};
 ghost use Rattle.lxr_image.specs.Tables.{changed};
 ghost use Rattle.lxr_layout.specs.Spaces.{AreLimits, counts_region, region_begin, region_sizes, reuse_region};
 ghost use Rattle.lxr_tables.specs.Counts.{lowered_count, lowered_of, raised_count};
@@ -467,6 +467,17 @@ impl Space {
         ensures { result ≡ (tables_of self.now).heap at }
     {
         self.word_in(WordTable::Heap, at as usize)
+    }
+
+    /// A word of the heap, where it lies; none where its block isn't written, whose words are all 0. The heap's words lie one after another, 8 bytes
+    /// each.
+    pub fn lend_heap(&self, at: u32) -> Option<&u64>
+        requires space { IsSpace self.now }
+        requires at { at < WORDS_IN_BLOCK * self.now.limits.blocks }
+        ensures some { IfSome result (λ word. word.now ≡ (tables_of self.now).heap at) }
+        ensures none { IfNone result (BlockIsZero self.now (at / WORDS_IN_BLOCK)) }
+    {
+        self.words.lend(at as usize)
     }
 
     /// A word of the heap, in a block that has a word that isn't 0: that block is written, and no note of it is asked.

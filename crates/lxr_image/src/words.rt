@@ -3,7 +3,7 @@ ghost use Rattle.std.specs.Prelude.{◌≡◌, ◌≢◌, ℕ, ◌+◌, ◌-◌,
 ghost use Rattle.lxr_layout.specs.declared.TheConstants.{GRANULES_IN_BLOCK, LINES_IN_BLOCK, STUCK};
 ghost use Rattle.lxr_layout.specs.Spaces.{AreLimits, all_regions, counts_region, heap_region, region_begin, region_sizes, reuse_region, runs_region};
 ghost use Rattle.lxr_tables.specs.Counts.{lowered_count, lowered_of, raised_count};
-ghost use Rattle.lxr_tables.specs.Pages.{IsInUsedPage};
+ghost use Rattle.lxr_tables.specs.Pages.{IsInUsedPage, PageIsZero};
 
 use crate::settled::Settled;
 use crate::tables::{BitTable, WordTable};
@@ -118,6 +118,15 @@ impl HeapWords {
     {
         self.settled.note_word(limits.blocks, table, index);
         self.plain.set(table.begin(limits) + index, value);
+    }
+
+    /// The word at an index, where it lies; none where its page isn't written, whose words are all 0.
+    pub(crate) fn lend(&self, at: usize) -> Option<&u64>
+        requires { at < length self.now }
+        ensures some { IfSome result (λ word. word.now ≡ slice_index self.now at) }
+        ensures none { IfNone result (PageIsZero self.now at) }
+    {
+        self.plain.lend(at)
     }
 
     /// The word at an index, in a page that has a word that isn't 0.

@@ -2,7 +2,7 @@
 ghost use Rattle.std.specs.Prelude.{◌≡◌, ◌≢◌, ◌↔◌, ◌++◌, [], IfOk, IsTrue, OnOk, codes};
 ghost use Rattle.std.specs.Option.{option_map};
 ghost use Rattle.std.specs.Result.{is_ok};
-ghost use Rattle.lxr_graph.specs.History.{HasToldCounts, report_of};
+ghost use Rattle.lxr_graph.specs.History.{HasToldCounts, HasToldNames, report_of};
 ghost use Rattle.lxr_text_print.specs.Replies.{call_text};
 ghost use Rattle.lxr_text_print.specs.Reports.{report_text};
 ghost use Rattle.lxr_judge.specs.Taking.{IsLineOf, IsPrinted};
@@ -92,14 +92,15 @@ pub(crate) fn is_printed(
     }
 }
 
-/// Whether a text is that of a report, whose counts were told.
+/// Whether a text is that of a report, whose names and counts were told.
 pub(crate) fn is_report(
     alloc: Global,
     report: &Report,
     counts: bool,
     text: &[u8],
 ) -> Result<bool, AllocError>
-    requires { HasToldCounts report.now }
+    requires names { HasToldNames report.now }
+    requires counts { HasToldCounts report.now }
     ensures { IfOk result (λ yes. IsTrue yes ↔ (report_text counts (report_of report.now) ≡ text.now)) }
 {
     let mut printed = Plenty::new(alloc);

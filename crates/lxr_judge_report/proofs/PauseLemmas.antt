@@ -11,7 +11,7 @@ use Rattle.lxr_graph.specs.History.{PauseReport}
 use Rattle.lxr_graph.proofs.NameSets.{in_order-one, in_order-union, in_order-without}
 use Rattle.lxr_model.specs.Moments.{Trace, Moment, opening_moment, left_by, unreclaimed_after, stuck_after, going_on, trace_after}
 use Rattle.lxr_model.specs.Reports.{IsReport}
-use Rattle.lxr_model_counting.proofs.DistinctLemmas.{union_same}
+use Rattle.lxr_model_counting.proofs.DistinctLemmas.{union_same, without_same}
 use Rattle.lxr_model_counting.proofs.FollowingLemmas.{opening_follows}
 use Rattle.lxr_model_counting.proofs.GarbageLemmas.{pause_keeps_garbage, sweeps_are_sound}
 use Rattle.lxr_model_counting.proofs.PauseLemmas.{restarts}
@@ -26,6 +26,12 @@ use Rattle.lxr_judge_report.proofs.SetLemmas.{alone}
 pub left_joined : (report : PauseReport) (set joined names left : List Name) → ((n : Name) → has set n ≡ has joined n)
     → (AreInOrder names → left ≡ left_by report (union set names)) → AreInOrder names → left ≡ left_by report (union joined names)
 left_joined report set joined names left same was order = was order ∙ ap (left_by report) (union_same set joined names order same)
+
+-- and so it does on which names die and are swept
+pub left_over : (report : PauseReport) (dead swept names left : List Name) → ((n : Name) → has dead n ≡ has report.dead n) → ((n : Name) → has swept n ≡ has report.swept n)
+    → left ≡ without (without names dead) swept → left ≡ left_by report names
+left_over report dead swept names left dies goes was =
+    was ∙ ap (λ ns. without ns swept) (without_same names dead report.dead dies) ∙ without_same (without names report.dead) swept report.swept goes
 
 -- the trace that runs behind a pause
 trace_paused : (m : Moment) (report : PauseReport) (k : Kind) → AreInOrder (unreclaimed_after m report)

@@ -19,8 +19,8 @@ use std::alloc::{AllocError, Global};
 fn left_of(alloc: Global, report: &Report, all: &NameSet) -> Result<NameSet, AllocError>
     ensures { IfOk result (λ left. left ≡ moments.left_by (report_of report.now) all.now) }
 {
-    let dead = NameSet::of(alloc, report.dead.as_slice())?;
-    let swept = NameSet::of(alloc, report.swept.as_slice())?;
+    let dead = NameSet::of(alloc, report.dead.found())?;
+    let swept = NameSet::of(alloc, report.swept.found())?;
     all.without_both(alloc, &dead, &swept)
 }
 
@@ -95,10 +95,10 @@ impl Position {
         let unreclaimed = left_with(
             alloc,
             report,
-            report.promoted.as_slice(),
+            report.promoted.found(),
             self.last.unreclaimed(),
         )?;
-        let stuck = left_with(alloc, report, report.stuck.as_slice(), self.last.stuck())?;
+        let stuck = left_with(alloc, report, report.stuck.found(), self.last.stuck())?;
         let trace = self.trace_after(alloc, report, &unreclaimed)?;
         LastPause::new(alloc, &self.graph, report.number, unreclaimed, stuck, trace)
     }

@@ -3,7 +3,7 @@ ghost use Rattle.std.specs.Prelude.{◌≡◌, ◌+◌, ◌-◌, ◌^◌, ◌<�
 ghost use Rattle.lxr_layout.specs.declared.Name.{Name as NameOf};
 ghost use Rattle.lxr_graph.specs.Names.{AreInOrder, union, without};
 ghost use Rattle.lxr_graph.specs.State.{object_at, refs_of};
-ghost use Rattle.lxr_graph.specs.History.{HasToldCounts, report_of};
+ghost use Rattle.lxr_graph.specs.History.{HasToldCounts, HasToldNames, report_of};
 ghost use Rattle.lxr_model.specs.Reports.{field_holds, newly_held};
 ghost use Rattle.lxr_model.specs.Reports as pause;
 ghost use Rattle.lxr_judge_sets.specs.ByName.{value_at};
@@ -15,8 +15,8 @@ ghost use Rattle.lxr_judge_report.specs.Stages.{drained_of, raised_now, swept_no
 
 use crate::Position;
 use crate::position::Written;
-use lxr_base::Chronicle;
-use lxr_graph::{Count, Counts, Graph, Kind, Names, Report};
+use lxr_base::{Chronicle, Listed};
+use lxr_graph::{Count, Counts, Graph, Kind, Report};
 use lxr_judge_sets::{NameSet, Tally, dead, promoted, reachable, references};
 use lxr_layout::{Name, STUCK};
 use std::alloc::{AllocError, Global};
@@ -166,11 +166,12 @@ fn count_names(
 }
 
 impl Position {
-    /// The report of a pause of this kind, whose counts are told. It takes time for what isn't reclaimed, and for what was made and
+    /// The report of a pause of this kind, whose names and counts are told. It takes time for what isn't reclaimed, and for what was made and
     /// written since the last pause.
     pub fn report(&self, alloc: Global, kind: Kind) -> Result<Report, AllocError>
         requires { self.now.last.number < 2 ^ 32 - 1 }
         ensures report { IfOk result (λ report. IsReportAt self.now kind (report_of report)) }
+        ensures names { IfOk result HasToldNames }
         ensures told { IfOk result HasToldCounts }
     {
         let gains = self.gains(alloc)?;
@@ -234,10 +235,10 @@ impl Position {
         promoted: &NameSet,
         raised: &Tally,
         names: &[Name],
-    ) -> Result<Names, AllocError>
+    ) -> Result<Listed<Name>, AllocError>
         ensures { IfOk result (λ stuck. stuck.items ≡ filter (becomes_stuck_by self.now promoted.now (value_at raised.now)) names.now) }
     {
-        let mut stuck = Names::new(alloc);
+        let mut stuck = Listed::new(alloc);
         for name in names {
             if self.becomes_stuck(promoted, raised, *name) {
                 stuck.try_push(*name)?;

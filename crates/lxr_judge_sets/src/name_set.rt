@@ -1,5 +1,5 @@
 //! Sets of names: whether one has a name is told at once, and its names stand in a list.
-ghost use Rattle.std.specs.Prelude.{◌≡◌, ◌<◌, [], IfOk, IfSome, OnErr, OnOk, slice_get};
+ghost use Rattle.std.specs.Prelude.{◌≡◌, ◌<◌, [], IfOk, IfSome, IsTrue, OnErr, OnOk, slice_get};
 ghost use Rattle.lxr_layout.specs.declared.Name.{Name as NameOf};
 ghost use Rattle.lxr_graph.specs.Names.{AreInOrder, has, union, without};
 ghost use Rattle.lxr_graph.specs.Distinct.{IsDistinct};
@@ -155,10 +155,11 @@ impl NameSet {
         }
     }
 
-    /// Its names alone, in the same memory.
+    /// Its names alone, in the same memory, which can be read.
     pub fn into_names(self) -> Names
-        ensures { result.items ≡ self }
+        ensures names { result.items ≡ self }
+        ensures listed { IsTrue result.listed }
     {
-        Listed::from_vec(self.names)
+        Names::of(Listed::from_vec(self.names))
     }
 }

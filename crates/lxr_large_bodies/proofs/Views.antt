@@ -3,6 +3,7 @@ use Rattle.std.proofs.Common.{◌≡◌, ◌≢◌, ℕ, zero, suc, ◌+◌, ◌
 use Rattle.std.specs.Prelude.{IfNone, IfSome, slice_get}
 use Rattle.std.specs.Option.{option_map}
 use Rattle.std.specs.List.{AllByRecursion, list_any}
+use Rattle.std.specs.List.Sorted.{IsPermutation}
 use Rattle.std.proofs.lemmas.Bool.{leb-true, or_parts}
 use Rattle.std.proofs.lemmas.List.{length-map}
 use Rattle.std.proofs.lemmas.List.Folds.{list_any_more}
@@ -10,6 +11,7 @@ use Rattle.std.proofs.Math.Seq.{take-append_seam}
 use Rattle.lxr_layout.specs.declared.Name.{Name}
 use Rattle.lxr_graph.specs.Names.{has, same_name}
 use Rattle.lxr_graph.specs.History.{PauseReport}
+use Rattle.lxr_graph.proofs.NameLemmas.{same_members}
 use Rattle.lxr_large_bodies.specs.declared.entries.Entry.{Entry}
 use Rattle.lxr_large_bodies.specs.Blocks.{AreFree, AreTaken, AreWithin, TakesRun, block_count, covers, is_within}
 use Rattle.lxr_large_bodies.specs.Bodies.{Body, Held, IsFreeRun, blocks_held, blocks_in, body_of, fresh, left_by, overwritten, range_at, range_in, rank_of, settled, stays, takes, with_placed, with_words, word_at, word_in}
@@ -319,18 +321,25 @@ still_written k l es le written = all_weaken (λ e. 4096 * (e.first + e.blocks) 
 pub written_back : {X : Type 0} (len : ℕ) (new spare : List X) → length new ≡ len → take len (new ++ drop (length new) spare) ≡ new
 written_back len new spare same = rw (sym same) (take-append_seam new (drop (length new) spare))
 
+-- names in any order settle the same entries
+pub settled_moved : (names said : List Name) (value : Bool) (es : List Entry) → IsPermutation names said → map (settled_where said value) es ≡ map (settled_where names value) es
+settled_moved names said value [] moved = refl
+settled_moved names said value (e ∷ es) moved =
+    (λ i. record e { settled = cond (same_members names said moved e.name i) value e.settled } ∷ map (settled_where said value) es)
+    ∙ ap (λ xs. settled_where names value e ∷ xs) (settled_moved names said value es moved)
+
 -- the entries behind one step of a pause
 pub record IsSettledBy (names : List Name) (value : Bool) (es next : List Entry) (len : ℕ) : Type 0 where
   pub are : next ≡ map (settled_where names value) es
   pub as_many : length next ≡ len
 
-pub settles : (names said : List Name) (value : Bool) (es given new next spare : List Entry) (len : ℕ) → given ≡ es → length given ≡ len → said ≡ names → new ≡ map (settled_where said value) given → next ≡ take len (new ++ drop (length new) spare)
+pub settles : (names said : List Name) (value : Bool) (es given new next spare : List Entry) (len : ℕ) → given ≡ es → length given ≡ len → IsPermutation names said → new ≡ map (settled_where said value) given → next ≡ take len (new ++ drop (length new) spare)
     → IsSettledBy names value es next len
 settles names said value es given new next spare len same as_many says settled back =
     let many : length new ≡ len = ap length settled ∙ length-map given (settled_where said value) ∙ as_many in
     let is : next ≡ new = back ∙ written_back len new spare many in
     record {
-      are = is ∙ settled ∙ ap (λ (es : List Entry). map (settled_where said value) es) same ∙ ap (λ (ns : List Name). map (settled_where ns value) es) says;
+      are = is ∙ settled ∙ ap (λ (es : List Entry). map (settled_where said value) es) same ∙ settled_moved names said value es says;
       as_many = ap length is ∙ many;
     }
 

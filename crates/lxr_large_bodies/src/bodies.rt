@@ -188,9 +188,9 @@ impl Bodies {
     pub fn after_pause(&mut self, report: &Report)
         ensures { self.new ≡ record self.old { bodies = left_by (report_of report.now) self.old.bodies } }
     {
-        settle(&mut self.entries, report.promoted.as_slice(), true);
-        settle(&mut self.entries, report.dead.as_slice(), false);
-        settle(&mut self.entries, report.swept.as_slice(), false);
+        settle(&mut self.entries, report.promoted.found(), true);
+        settle(&mut self.entries, report.dead.found(), false);
+        settle(&mut self.entries, report.swept.found(), false);
         drop_unsettled(&mut self.entries);
         take_all(&mut self.taken, &self.entries);
     }

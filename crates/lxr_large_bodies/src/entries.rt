@@ -119,11 +119,14 @@ fn settle_one(entries: &mut [Entry], name: Name, settled: bool)
     }
 }
 
-/// Says whether the entries of these names are settled.
+/// Says whether the entries of these names are settled. Where there is no entry no name is looked at.
 pub(crate) fn settle(entries: &mut [Entry], names: &[Name], settled: bool)
     requires { AreSorted entries.old }
     ensures { entries.new ≡ map (settled_where names.now settled) entries.old }
 {
+    if entries.is_empty() {
+        return;
+    }
     for name in names {
         settle_one(entries, *name, settled);
     }

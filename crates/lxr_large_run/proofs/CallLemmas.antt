@@ -1,4 +1,4 @@
--- What a script may call a heap with, and a pause whose counts are told.
+-- What a script may call a heap with, and a pause whose names are listed and whose counts are told.
 use Rattle.std.proofs.Common.{◌≡◌, ◌∙◌, refl, sym, ap, subst, arith, Bool, true, false, List, [], ◌∷◌, Some, None}
 use Rattle.std.specs.Prelude.{◌&&◌, IsTrue, if◌then◌else◌, not}
 use Rattle.lxr_graph.specs.declared.Op.{Op}
@@ -7,12 +7,14 @@ use Rattle.lxr_graph.specs.declared.report.Count.{Count}
 use Rattle.lxr_graph.specs.declared.report.Kind.{Kind}
 use Rattle.lxr_graph.specs.declared.report.Kind.TheVariants as kind
 use Rattle.lxr_graph.specs.declared.report.Report.{Report}
-use Rattle.lxr_graph.specs.History.{HasToldCounts, PauseReport, report_of}
+use Rattle.lxr_graph.specs.History.{HasToldCounts, HasToldNames, PauseReport, report_of}
+use Rattle.lxr_graph.specs.Telling.{with_names_told}
 use Rattle.lxr_text_script.specs.declared.TheConstants.{SCRIPT_REGISTERS}
 use Rattle.lxr_text_script.specs.declared.Version.TheVariants.{One}
 use Rattle.lxr_text_script.specs.Spelling.{operation_version}
 use Rattle.lxr_text_print.specs.Reports.{is_plain}
 use Rattle.lxr_direct.specs.Operating.{IsOfFirstVersion}
+use Rattle.lxr_one_pause.specs.Telling.{with_retold}
 use Rattle.lxr_large_model.specs.declared.LargeOp.{LargeOp}
 use Rattle.lxr_large_model.specs.declared.LargeOp.TheVariants as large_op
 use Rattle.lxr_large_model.specs.History.{LargeItem, Paused, large_moment}
@@ -20,11 +22,11 @@ use Rattle.lxr_large_model.specs.Pauses.{AsksFor}
 use Rattle.lxr_large_text.specs.Limits.{IsLargeOperation}
 use Rattle.lxr_heap.specs.declared.heap.Heap.{Heap}
 use Rattle.lxr_heap.specs.Acting.{MayBeCalled}
-use Rattle.lxr_heap.specs.Holding.{IsHeapOf, StayInBlocks, StayInPlace, abstract_after, terms_of}
+use Rattle.lxr_heap.specs.Holding.{IsHeapOf, StayInBlocks, StayInPlace, terms_of}
 use Rattle.lxr_heap.specs.Pausing.{PausesHeap, kind_asked}
-use Rattle.lxr_heap.specs.Telling.{TellsHeap}
+use Rattle.lxr_heap.specs.Telling.{TellsHeap, TellsNames}
 use Rattle.lxr_heap.proofs.NumberLemmas.{paused_pauses}
-use Rattle.lxr_heap.proofs.SameLemmas.{rests_told}
+use Rattle.lxr_heap.proofs.SameLemmas.{stands_retold}
 use Rattle.lxr_large_run.specs.Asking.{asked_by}
 use Rattle.lxr_large_run.specs.Playing.{TellsPrinted}
 
@@ -59,18 +61,42 @@ asks_none (large_op.Small op.Collect) is k asks = absurd (cc)
 asks_none (large_op.Small op.End) is k asks = absurd (cc)
 asks_none o is k asks = asks
 
--- ---- a pause whose counts are told
+-- ---- a pause whose names are listed, and whose counts are told
 
--- after a pause whose counts were told the heap is the one after the pause
+-- after a pause of which something was told the heap is the one after the pause
+retold_pauses : (x y z : Heap) (by : Report) (h : List LargeItem) (collect : Bool) → PausesHeap x y h collect → IsHeapOf z (Paused (report_of y.space.report) ∷ h)
+    → z ≡ record y { space = with_retold y.space by } → PausesHeap x z h collect
+retold_pauses x y z by h collect paused holds is = record {
+  kind = ap (λ (w : Heap). w.space.report.kind) is ∙ paused.kind;
+  holds = subst (λ (r : PauseReport). IsHeapOf z (Paused r ∷ h)) (sym (ap (λ (w : Heap). report_of w.space.report) is)) holds;
+  made = ap (λ (w : Heap). w.made) is ∙ paused.made;
+  gone = ap (λ (w : Heap). w.gone.items) is ∙ paused.gone;
+  placed = subst (λ (w : Heap). StayInPlace x w h (Paused (report_of w.space.report) ∷ h) (large_moment h).unreclaimed) (sym is)
+      (λ at stands.
+      let (at', there, same) = paused.placed at stands in
+      let k = Paused (report_of y.space.report) ∷ h in
+      (at', stands_retold y k by k (record { moment = refl; state = refl; reported = refl; fresh = (λ f. f, λ f. f) }) at' there, same));
+  stay = subst (λ (w : Heap). StayInBlocks x.bodies.bodies w.bodies.bodies) (sym is) paused.stay;
+  terms = ap terms_of is ∙ paused.terms;
+}
+
+-- so it is after one whose names were listed
+pub listed_pauses : (x y z : Heap) (h : List LargeItem) (collect : Bool) → PausesHeap x y h collect → TellsNames y z (Paused (report_of y.space.report) ∷ h) → PausesHeap x z h collect
+listed_pauses x y z h collect paused lists = retold_pauses x y z (with_names_told y.space.report) h collect paused lists.holds lists.heap
+
+-- and after one whose counts were told
 pub told_pauses : (x y z : Heap) (h : List LargeItem) (collect : Bool) → PausesHeap x y h collect → TellsHeap y z (Paused (report_of y.space.report) ∷ h) → PausesHeap x z h collect
-told_pauses x y z h collect paused tells = record {
-  kind = ap (λ (w : Heap). w.space.report.kind) tells.heap ∙ paused.kind;
-  holds = subst (λ (r : PauseReport). IsHeapOf z (Paused r ∷ h)) (sym (ap (λ (w : Heap). report_of w.space.report) tells.heap)) tells.holds;
-  made = ap (λ (w : Heap). w.made) tells.heap ∙ paused.made;
-  placed = subst (λ (w : Heap). StayInPlace x.space w.space h (Paused (report_of w.space.report) ∷ h) (large_moment h).unreclaimed) (sym tells.heap)
-      (λ at stands. let (at', there, same) = paused.placed at stands in (at', rests_told y.space (abstract_after (Paused (report_of y.space.report) ∷ h) at') z.space.report.told.items there, same));
-  stay = subst (λ (w : Heap). StayInBlocks x.bodies.bodies w.bodies.bodies) (sym tells.heap) paused.stay;
-  terms = ap terms_of tells.heap ∙ paused.terms;
+told_pauses x y z h collect paused tells =
+    let by : Report = record y.space.report { told = record y.space.report.told { items = z.space.report.told.items } } in
+    retold_pauses x y z by h collect paused tells.holds tells.heap
+
+-- what can be read of names stays as counts are told
+pub names_stay : (y z : Heap) (h : List LargeItem) → TellsHeap y z h → HasToldNames y.space.report → HasToldNames z.space.report
+names_stay y z h tells names = subst (λ (w : Heap). HasToldNames w.space.report) (sym tells.heap) record {
+  promoted = names.promoted;
+  dead = names.dead;
+  stuck = names.stuck;
+  swept = names.swept;
 }
 
 -- and one that collected has told what it counted

@@ -16,6 +16,7 @@ use Rattle.lxr_large_text.specs.Replies.{AreLargePrintable, IsNoEnd, large_text}
 use Rattle.lxr_large_text.specs.Limits.{IsLargeOperation, IsLargeScript, IsLargeWritten}
 use Rattle.lxr_heap.specs.declared.heap.Heap.{Heap}
 use Rattle.lxr_heap.specs.Holding.{IsOpenedHeap, limits_of}
+use Rattle.lxr_heap.proofs.CallLemmas.{rests_all}
 use Rattle.lxr_heap.proofs.MomentLemmas.{quiescent}
 use Rattle.lxr_large_text.specs.Histories.{IsLargeHistory, called_in, replied_in, with_end}
 use Rattle.lxr_large_text.specs.Texts.{large_reports_text}
@@ -37,9 +38,10 @@ begins task x blocks bodies os same script opened terms = record {
   causes = tt;
   replies = refl;
   text = Appends-nil task.written;
-  told = tells_no_pause task.counts x.space.report opened.untold (ap (λ (r : PauseReport). r.kind) opened.holds.rests.safepoint.numbers.report);
-  pauses = let none = opened.holds.rests.safepoint.numbers.pauses in omega (arith, none);
+  told = tells_no_pause task.counts x.space.report opened.untold (ap (λ (r : PauseReport). r.kind) opened.holds.stands.0.safepoint.numbers.report);
+  pauses = let none = opened.holds.stands.0.safepoint.numbers.pauses in omega (arith, none);
   made = let none = opened.made in omega (arith, none);
+  none_gone = opened.none_gone;
 }
 
 -- ---- what comes next
@@ -91,7 +93,7 @@ space_left task x written replies h p =
     let c = is.collected (ends_fresh task.terms task.operations h (whole task x written replies h p)) in
     record {
       at = is.at;
-      between = quiescent x.space _ is.rests c.written;
+      between = quiescent x.space _ (rests_all x h is p.none_gone) c.written;
       limits = is.limits ∙ ap (λ (t : LargeTerms). limits_of t.blocks t.registers) p.terms;
       tally = is.tally;
       state = is.state;

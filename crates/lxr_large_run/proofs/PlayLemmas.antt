@@ -1,6 +1,7 @@
 -- Playing goes on by calls and pauses: what a call has come to, directly or after a pause that was made for it, and what is left once its reply is
 -- kept and the pause that it asks for is made.
 use Rattle.std.proofs.Common.{◌≡◌, ℕ, ◌+◌, ◌∙◌, sym, ap, subst, arith, Bool, List, [], ◌∷◌, ◌++◌, append_assoc, length, length-append, Option, Some, None}
+use Rattle.lxr_graph.specs.Listing.{NameList}
 use Rattle.lxr_graph.specs.History.{report_of}
 use Rattle.lxr_text_script.specs.declared.TheConstants.{SCRIPT_REGISTERS}
 use Rattle.lxr_text_print.specs.Reports.{report_text}
@@ -39,6 +40,7 @@ module _ (task : LargeTask) (o : LargeOp) (rest : List LargeOp) (x : Heap) (writ
     told = subst (TellsPrinted task.counts) (sym came.reported) p.told;
     pauses = let same = called_pauses x y h o r p.holds came.holds in let few = p.pauses in omega (arith, same, few);
     made = let more = called_makes x y h o r p.holds came.holds (SCRIPT_REGISTERS, may) in let few = p.made in omega (arith, more, few);
+    none_gone = ap (λ (g : NameList). g.items) came.gone ∙ p.none_gone;
   }
 
   module _ (collect : Bool) (made : IsMadeFor task.terms h (kind_asked collect) o) (y : Heap) (paused : PausesHeap x y h collect) where
@@ -69,6 +71,7 @@ module _ (task : LargeTask) (o : LargeOp) (rest : List LargeOp) (x : Heap) (writ
           let same = paused.made in
           let few = p.made in
           omega (arith, more, same, few);
+      none_gone = ap (λ (g : NameList). g.items) came.gone ∙ paused.gone;
     }
 
     -- or that pause's report was cut off
@@ -110,6 +113,7 @@ module _ (task : LargeTask) (o : LargeOp) (rest : List LargeOp) (r : LargeReply)
     told = c.told;
     pauses = let longer = one_longer replies r in let few = c.pauses in omega (arith, longer, few);
     made = let longer = one_longer replies r in let few = c.made in omega (arith, longer, few);
+    none_gone = c.none_gone;
   }
 
   module _ (collect : Bool) (asked : asked_by o ≡ Some collect) (y : Heap) (paused : PausesHeap x y (Called o r ∷ k) collect) where
@@ -139,6 +143,7 @@ module _ (task : LargeTask) (o : LargeOp) (rest : List LargeOp) (r : LargeReply)
           let longer = one_longer replies r in
           let few = c.made in
           omega (arith, same, longer, few);
+      none_gone = paused.gone;
     }
 
     -- or its report was cut off

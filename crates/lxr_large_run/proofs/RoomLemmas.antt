@@ -31,6 +31,7 @@ use Rattle.lxr_heap.specs.Holding.{IsHeapOf, abstract_after, terms_of}
 use Rattle.lxr_heap.specs.Pausing.{kind_asked}
 use Rattle.lxr_heap.proofs.BlockLemmas.{found_all, found_named, found_whole, no_run_left, same_sums, slots_by}
 use Rattle.lxr_heap.proofs.BodyLemmas.{held_names, held_pass, words_same}
+use Rattle.lxr_heap.proofs.CallLemmas.{rests_all}
 use Rattle.lxr_heap.proofs.FullLemmas.{not_ours, of_thread, slots_words}
 use Rattle.lxr_heap.proofs.MomentLemmas.{none_chosen}
 use Rattle.lxr_heap.proofs.WantingLemmas.{log_room, logged_are}
@@ -38,12 +39,13 @@ use Rattle.lxr_heap.proofs.WantingLemmas.{log_room, logged_are}
 -- ---- no room
 
 -- what is kept can leave no lines for a shape
-lines_none : (x : Heap) (h : List LargeItem) → IsHeapOf x h → (shape : Shape) → IsFull x.space shape → LeaveNoLines (terms_of x) (large_state h) (kept_names (large_moment h)) shape
-lines_none x h is shape full =
+lines_none : (x : Heap) (h : List LargeItem) → IsHeapOf x h → x.gone.items ≡ [] → (shape : Shape) → IsFull x.space shape → LeaveNoLines (terms_of x) (large_state h) (kept_names (large_moment h)) shape
+lines_none x h is none_gone shape full =
+    let rests = rests_all x h is none_gone in
     let g = abstract_after h is.at in
     let m = large_moment h in
-    let none = all_leave_no_run x.space g shape is.rests.safepoint.holds is.rests.outs (subst (λ (z : State). HasWorld z.graph) (sym is.state) is.world) full in
-    let unchosen = none_chosen x.space g is.rests is.untraced in
+    let none = all_leave_no_run x.space g shape rests.safepoint.holds rests.outs (subst (λ (z : State). HasWorld z.graph) (sym is.state) is.world) full in
+    let unchosen = none_chosen x.space g rests is.untraced in
     let all : x.space.limits.blocks - chosen_count (tables_of x.space) x.space.limits.blocks ≡ x.space.limits.blocks = omega (arith, unchosen) in
     subst (λ (z : State). LeaveNoRun z.graph (kept_names m) x.space.limits.blocks (line_count shape)) is.state (subst (λ b. LeaveNoRun m.state.graph (kept_names m) b (line_count shape)) all none)
 
@@ -80,11 +82,11 @@ blocks_none x h is k some none =
     subst (λ t. x.bodies.blocks / k ≤ t) sums left
 
 -- so a pause that collects is made for what finds no place
-room_made : (x : Heap) (h : List LargeItem) → IsHeapOf x h → (o : LargeOp) → MayBeCalled SCRIPT_REGISTERS o → FindsNoPlace x o → IsMadeFor (terms_of x) h kind.Collect o
-room_made x h is (large_op.Small (op.New dest shape)) may full = lines_none x h is shape full
-room_made x h is (large_op.Big dest blocks) may (inl full) = inl (lines_none x h is handle full)
-room_made x h is (large_op.Big dest blocks) may (inr none) = inr (blocks_none x h is blocks may.1 none)
-room_made x h is o may none = absurd none
+room_made : (x : Heap) (h : List LargeItem) → IsHeapOf x h → x.gone.items ≡ [] → (o : LargeOp) → MayBeCalled SCRIPT_REGISTERS o → FindsNoPlace x o → IsMadeFor (terms_of x) h kind.Collect o
+room_made x h is gone (large_op.Small (op.New dest shape)) may full = lines_none x h is gone shape full
+room_made x h is gone (large_op.Big dest blocks) may (inl full) = inl (lines_none x h is gone handle full)
+room_made x h is gone (large_op.Big dest blocks) may (inr none) = inr (blocks_none x h is blocks may.1 none)
+room_made x h is gone o may none = absurd none
 
 -- ---- a full log
 
@@ -92,7 +94,7 @@ room_made x h is o may none = absurd none
 log_made : (terms : LargeTerms) (x : Heap) (h : List LargeItem) → IsHeapOf x h → (o : LargeOp) → FindsNoLog x (large_moment h) o → IsMadeFor terms h kind.Plain o
 log_made terms x h is (large_op.Small (op.Store base i source)) log =
     let full = log.1 in
-    let few = is.rests.safepoint.holds.few_logs in
+    let few = is.stands.0.safepoint.holds.few_logs in
     let room = log_room x h is in
     let same = logged_are x h is in
     omega (arith, full, few, room, same)
@@ -101,6 +103,6 @@ log_made terms x h is o log = absurd log
 -- ---- a pause that is wanted
 
 -- it is made for the operation
-pub wanted_made : (terms : LargeTerms) (x : Heap) (h : List LargeItem) → IsHeapOf x h → (o : LargeOp) (collect : Bool) → MayBeCalled SCRIPT_REGISTERS o → terms_of x ≡ terms → WantsPause x h o collect → IsMadeFor terms h (kind_asked collect) o
-wanted_made terms x h is o true may same none = subst (λ t. IsMadeFor t h kind.Collect o) same (room_made x h is o may none)
-wanted_made terms x h is o false may same log = log_made terms x h is o log
+pub wanted_made : (terms : LargeTerms) (x : Heap) (h : List LargeItem) → IsHeapOf x h → x.gone.items ≡ [] → (o : LargeOp) (collect : Bool) → MayBeCalled SCRIPT_REGISTERS o → terms_of x ≡ terms → WantsPause x h o collect → IsMadeFor terms h (kind_asked collect) o
+wanted_made terms x h is gone o true may same none = subst (λ t. IsMadeFor t h kind.Collect o) same (room_made x h is gone o may none)
+wanted_made terms x h is gone o false may same log = log_made terms x h is o log

@@ -34,7 +34,8 @@ abbrev pub TellsPrinted : Bool → Report → Type 0
 TellsPrinted counts r = TellsWanted (counts && not (is_plain r.kind)) r
 
 -- The script was played up to these operations: the heap is that of a history whose calls are those before them, nothing is owed to it, its
--- replies are kept, its reports were written, and the last one tells the counts that are printed. Two pauses at most were made for each call, and one object.
+-- replies are kept, its reports were written, and the last one tells the counts that are printed. Two pauses at most were made for each call, and one
+-- object, and nothing dies before its pause.
 pub record IsPlaying (task : LargeTask) (rest : List LargeOp) (x : Heap) (written : Option (List ℕ)) (kept : List LargeReply) (h : List LargeItem) : Type 0 where
   pub script : IsLargeScript task.operations
   pub holds : IsHeapOf x h
@@ -47,6 +48,7 @@ pub record IsPlaying (task : LargeTask) (rest : List LargeOp) (x : Heap) (writte
   pub told : TellsPrinted task.counts x.space.report
   pub pauses : x.space.pauses ≤ 2 * length kept
   pub made : x.made ≤ length kept
+  pub none_gone : x.gone.items ≡ []
 
 -- An operation has just come, with this reply, behind a history k and before these operations: what it asks for is still owed, and its reply
 -- isn't kept yet.
@@ -62,6 +64,7 @@ pub record HasCome (task : LargeTask) (o : LargeOp) (rest : List LargeOp) (r : L
   pub told : TellsPrinted task.counts x.space.report
   pub pauses : x.space.pauses ≤ 2 * length kept + 1
   pub made : x.made ≤ length kept + 1
+  pub none_gone : x.gone.items ≡ []
 
 -- a task with these counts was played up to this operation
 abbrev pub SomeIsPlaying : Bool → LargeOp → Heap → Option (List ℕ) → List LargeReply → Type 0

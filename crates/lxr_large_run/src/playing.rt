@@ -1,6 +1,6 @@
 //! The operations of a script, one by one, with the pauses before and behind them.
 ghost use Rattle.std.specs.Prelude.{◌≡◌, ℕ, ◌+◌, ◌-◌, ◌^◌, ◌<◌, ◌≤◌, [], ◌∷◌, List, IfOk, OnErr, OnOk, length};
-ghost use Rattle.lxr_graph.specs.History.{report_of};
+ghost use Rattle.lxr_graph.specs.History.{HasToldNames, report_of};
 ghost use Rattle.lxr_text_script.specs.declared.TheConstants.{SCRIPT_REGISTERS};
 ghost use Rattle.lxr_text_print.specs.Reports.{report_text};
 ghost use Rattle.lxr_text_stream.specs.Streams.{Appends, AppendsFront, Rose};
@@ -21,13 +21,25 @@ use lxr_large_model::{Acted, LargeOp, LargeReply};
 use lxr_text_print::print_pause;
 use lxr_text_stream::{Sink, WriteError};
 
-/// Makes a pause, and tells its counts where they are asked for and it collects.
+/// Makes a pause, and lists the names of its report. No counts are told.
+fn pause_and_list(heap: &mut LargeHeap, collect: bool)
+    requires number { heap.old.space.pauses + 1 < 2 ^ 32 }
+    ensures pauses { (h : List LargeItem) → IsHeapOf heap.old h → PausesHeap heap.old heap.new h collect }
+    ensures names { (h : List LargeItem) → IsHeapOf heap.old h → HasToldNames heap.new.space.report }
+    ensures untold { (h : List LargeItem) → IsHeapOf heap.old h → heap.new.space.report.told.items ≡ [] }
+{
+    heap.pause(collect);
+    heap.tell_names();
+}
+
+/// Makes a pause, lists the names of its report, and tells its counts where they are asked for and it collects.
 fn pause_and_tell(heap: &mut LargeHeap, collect: bool, counts: bool)
     requires number { heap.old.space.pauses + 1 < 2 ^ 32 }
     ensures pauses { (h : List LargeItem) → IsHeapOf heap.old h → PausesHeap heap.old heap.new h collect }
+    ensures names { (h : List LargeItem) → IsHeapOf heap.old h → HasToldNames heap.new.space.report }
     ensures told { (h : List LargeItem) → IsHeapOf heap.old h → TellsPrinted counts heap.new.space.report }
 {
-    heap.pause(collect);
+    pause_and_list(heap, collect);
     if counts && collect {
         heap.tell_counts();
     }

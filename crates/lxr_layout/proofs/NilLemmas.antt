@@ -1,5 +1,5 @@
 -- Registers that hold nothing: which are so behind a write, and what a list is from there on.
-use Rattle.std.proofs.Common.{◌≡◌, ℕ, zero, suc, ◌+◌, ◌-◌, ◌<◌, ◌≤◌, ◌++◌, List, length, arith, refl, sym, ap, ◌∙◌}
+use Rattle.std.proofs.Common.{◌≡◌, ℕ, zero, suc, ◌+◌, ◌-◌, ◌<◌, ◌≤◌, ◌++◌, List, [], ◌∷◌, length, arith, refl, sym, ap, ◌∙◌}
 use Rattle.std.specs.Prelude.{drop, replicate, slice_index_or, slice_set, take}
 use Rattle.std.proofs.lemmas.List.{ext_get_or, get_or-drop, get_or-set_other, length-drop, length-replicate, take-append-drop}
 use Rattle.lxr_layout.specs.declared.Place.{Place}
@@ -32,3 +32,12 @@ pub others_first : (places others : List Place) (n : ℕ) → length places ≡ 
     → take n others ++ drop n places ≡ others
 others_first places others n as_many are are_others =
     ap (λ ps. take n others ++ ps) (drop_nil places n are ∙ ap (λ l. replicate (l - n) nil) as_many ∙ sym (drop_nil others n are_others)) ∙ take-append-drop n others
+
+-- ---- places over others
+
+-- the first of some in place of the only one
+pub one_written : (to from : List Place) → length to ≡ 1 → 1 ≤ length from → slice_set to 0 (held_at from 0) ≡ take (length to) from
+one_written [] from one some = absurd (omega (arith, one))
+one_written (x ∷ []) [] one some = absurd (omega (arith, some))
+one_written (x ∷ []) (y ∷ from) one some = refl
+one_written (x ∷ z ∷ to) from one some = absurd (omega (arith, one))

@@ -5,7 +5,7 @@
 //! granule with a header word that packs its name and shape. Nothing here knows of a heap's content.
 #![tactic(auto)]
 
-ghost use Rattle.std.specs.Prelude.{◌≡◌, ◌↔◌, ◌<◌, ◌≤◌, IsTrue};
+ghost use Rattle.std.specs.Prelude.{◌≡◌, ◌↔◌, ◌<◌, ◌≤◌, IsTrue, length, take};
 ghost use Rattle.lxr_layout.specs.Objects.{FitsShape, header_of, header_word, line_count, moved_word, word_count};
 ghost use Rattle.lxr_layout.specs.Places.{IsPlace, block_at, field_word as field_at, first_word, granule_of, line_at, place_at};
 
@@ -105,6 +105,21 @@ pub struct Place(pub u32);
 impl Place {
     /// The place of nothing.
     pub const NIL: Place = Place(0);
+}
+
+/// Writes the first of some places over others, as many as these are. One is written without a call: most threads of a heap for many hold the world
+/// alone.
+#[inline(always)]
+pub fn copy_places(to: &mut [Place], from: &[Place])
+    requires { length to.old ≤ length from.now }
+    ensures { to.new ≡ take (length to.old) from.now }
+{
+    let count = to.len();
+    if count == 1 {
+        to[0] = from[0];
+    } else {
+        to.copy_from_slice(&from[..count]);
+    }
 }
 
 /// How many references and how many data words an object has.

@@ -6,6 +6,7 @@ use crate::limits::{Limits, Regions};
 use crate::{COUNT_WORDS_IN_BLOCK, WORDS_IN_BLOCK};
 
 /// Where each region begins: right behind the one before it, in the order of the fields.
+#[inline(always)]
 pub fn regions(limits: Limits) -> Regions
     requires { AreLimits limits }
     ensures { result ≡ regions_of limits }

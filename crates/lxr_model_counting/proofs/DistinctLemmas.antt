@@ -9,7 +9,8 @@ use Rattle.std.proofs.lemmas.List.Sums.{sum_by-cons}
 use Rattle.std.proofs.lemmas.List.Sorted.{sum_by-IsPermutation}
 use Rattle.lxr_layout.specs.declared.Name.{Name}
 use Rattle.lxr_graph.specs.Names.{without, union, same_name, name_order, has, AreInOrder}
-use Rattle.lxr_graph.proofs.NameSets.{has-union, in_order-union, one_list, same_itself, same_names, order_itself}
+pub use Rattle.lxr_graph.proofs.NameSets.{first_has, has_split, in_order_distinct, later_has}
+use Rattle.lxr_graph.proofs.NameSets.{has-union, in_order-union, one_list, same_itself, same_names}
 use Rattle.lxr_model.specs.Moments.{Field, same_field, with_field}
 use Rattle.lxr_model_counting.specs.Distinct.{IsDistinct, has_field, AreDistinctFields}
 use Rattle.lxr_model_counting.specs.Lowering.{once}
@@ -29,27 +30,6 @@ or_false false b h = (refl, h)
 
 pub same_flip : (a b : Name) → same_name a b ≡ false → same_name b a ≡ false
 same_flip a b h = false_from_ne_true (same_name b a) (λ k. let t : same_name a b ≡ true = ap (same_name a) (same_names b a k) ∙ same_itself a in cc)
-
-pub first_has : (n : Name) (ns : List Name) → IsTrue (has (n ∷ ns) n)
-first_has n ns = or_left (same_name n n) (has ns n) (same_itself n)
-
-pub later_has : (n : Name) (ns : List Name) (q : Name) → IsTrue (has ns q) → IsTrue (has (n ∷ ns) q)
-later_has n ns q h = or_right (same_name q n) (has ns q) h
-
-pub has_split : (n : Name) (ns : List Name) (q : Name) → IsTrue (has (n ∷ ns) q) → (q ≡ n) ⊎ IsTrue (has ns q)
-has_split n ns q h = elim (or_cases (same_name q n) (has ns q) h) [ inl e ↦ inl (same_names q n e) | inr k ↦ inr k ]
-
-behind_not_had : (n : Name) (ns : List Name) → AllByRecursion (λ m. name_order n m ≡ Less) ns → IsTrue (has ns n) → ⊥
-behind_not_had n [] a h = cc
-behind_not_had n (m ∷ ns) a h = elim (has_split m ns n h) [
-  | inl e ↦ order_itself n (subst (λ x. name_order n x ≡ Less) (sym e) a.0)
-  | inr k ↦ behind_not_had n ns a.1 k
-]
-
-pub in_order_distinct : (ns : List Name) → AreInOrder ns → IsDistinct ns
-unfolding IsStrictlySortedBy
-in_order_distinct [] o = tt
-in_order_distinct (n ∷ ns) o = (false_from_ne_true (has ns n) (behind_not_had n ns o.0), in_order_distinct ns o.1)
 
 -- ---- names without others
 

@@ -3,19 +3,13 @@ use Rattle.std.specs.Prelude.{◌≡◌, ℕ, ◌+◌, ◌<◌, ◌≤◌, Some,
 use Rattle.lxr_graph.specs.declared.report.Kind.TheVariants as kind
 use Rattle.lxr_graph.specs.Names.{AreInOrder}
 use Rattle.lxr_graph.specs.History.{PauseReport, Item, Call, Pause, Renew}
+pub use Rattle.lxr_graph.specs.Telling.{HasListsInOrder}
 use Rattle.lxr_model.specs.Terms.{Terms}
 use Rattle.lxr_model.specs.Moments.{Trace, Moment, moment, trace_at}
 use Rattle.lxr_model.specs.Reports.{IsReport}
 use Rattle.lxr_model.specs.Legal.{IsLegalSoFar}
 
 -- ---- order
-
--- each list of names of a report is in order, each name once
-pub record HasListsInOrder (report : PauseReport) : Type 0 where
-  pub promoted : AreInOrder report.promoted
-  pub dead : AreInOrder report.dead
-  pub stuck : AreInOrder report.stuck
-  pub swept : AreInOrder report.swept
 
 abbrev pub ReportsAreInOrder : Type 0
 ReportsAreInOrder = (m : Moment) (report : PauseReport) → IsReport m report → HasListsInOrder report

@@ -21,7 +21,9 @@ use lxr_actor::Actor;
 use lxr_alloc::{Span, Spans};
 use lxr_barrier::Log;
 use lxr_graph::{Op, Operations, Replies, Reply};
-use lxr_layout::{Limits, MOST_GRANULES, Name, Place, REGISTERS, Regions, Shape, regions};
+use lxr_layout::{
+    Limits, MOST_GRANULES, Name, Place, REGISTERS, Regions, Shape, copy_places, regions,
+};
 use std::alloc::{AllocError, Global};
 use std::marker::Model;
 
@@ -350,7 +352,7 @@ impl Mutator {
         ensures { self.new ≡ record self.old { registers = row.now } }
     {
         let count = usize::from(self.in_use.max(in_use));
-        self.registers[0..count].copy_from_slice(&row[..count]);
+        copy_places(&mut self.registers[0..count], row);
         self.in_use = in_use;
     }
 

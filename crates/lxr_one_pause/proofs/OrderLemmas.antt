@@ -3,30 +3,21 @@ use Rattle.std.proofs.Common.{◌≡◌, ◌+◌, refl, sym, ap, subst, ◌∙�
 use Rattle.std.specs.Prelude.{◌↔◌}
 use Rattle.std.proofs.lemmas.List.Sums.{sum_by-cons}
 use Rattle.lxr_layout.specs.declared.Name.{Name}
-use Rattle.lxr_base.specs.Roomy.{Roomy}
 use Rattle.std.specs.Ordering.{is_lt}
 use Rattle.lxr_graph.specs.Names.{AreInOrder, IsSetOf, has, insert_name, name_order, same_name, union}
 use Rattle.lxr_graph.specs.State.{Graph, object_at, refs_of}
-use Rattle.lxr_graph.proofs.NameSets.{has-union, in_order-none, in_order-union, one_list}
+use Rattle.lxr_graph.proofs.NameSets.{has-union, in_order-none, in_order-union}
 use Rattle.lxr_model.specs.References.{reference_slots, references_from}
 use Rattle.lxr_model_counting.specs.Distinct.{IsDistinct}
 use Rattle.lxr_model_counting.proofs.DistinctLemmas.{or_false}
 use Rattle.lxr_model_counting.proofs.BalanceLemmas.{references_union}
 use Rattle.lxr_invariant.proofs.NameLemmas.{or_nothing}
-use Rattle.lxr_one_pause.specs.Steps.{in_order}
 
 pub has_in_order : (ns : List Name) (n : Name) → has (union ns []) n ≡ has ns n
 has_in_order ns n = has-union ns [] n ∙ or_nothing (has ns n)
 
 pub are_in_order : (ns : List Name) → AreInOrder (union ns [])
 are_in_order ns = in_order-union ns [] in_order-none
-
--- names that stand in order and are those of a list are that list put in order
-pub put_in_order : (before after : Roomy Name) → AreInOrder after.items → ((n : Name) → has after.items n ≡ has before.items n) → after.room ≡ before.room → after ≡ in_order before
-put_in_order before after sorted members room =
-    let same : (n : Name) → has after.items n ≡ has (union before.items []) n = λ n. members n ∙ sym (has_in_order before.items n) in
-    let items : after.items ≡ union before.items [] = one_list after.items (union before.items []) sorted (are_in_order before.items) (λ n. (λ h. sym (same n) ∙ h, λ h. same n ∙ h)) in
-    λ i. record { items = items i; room = room i }
 
 -- what a list of names has, the list put in order is the set of
 pub set_in_order : (ns : List Name) (P : Name → Type 0) → ((n : Name) → IsTrue (has ns n) ↔ P n) → IsSetOf (union ns []) P

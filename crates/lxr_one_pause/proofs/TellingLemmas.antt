@@ -3,6 +3,7 @@ use Rattle.std.proofs.Common.{◌≡◌, ℕ, refl, sym, ap, subst, ◌∙◌, B
 use Rattle.std.specs.Prelude.{Some, None, not, ◌&&◌}
 use Rattle.lxr_layout.specs.declared.Name.{Name}
 use Rattle.lxr_graph.specs.declared.report.Count.{Count}
+use Rattle.lxr_graph.specs.declared.report.Report.{Report}
 use Rattle.lxr_graph.specs.History.{HasToldCounts, PauseReport, report_of}
 use Rattle.lxr_graph.specs.Names.{has, union, without}
 use Rattle.lxr_graph.proofs.NameSets.{has-without}
@@ -20,6 +21,7 @@ use Rattle.lxr_pause_queue.specs.Entries.{with_told}
 use Rattle.lxr_one_pause.specs.declared.Ask.{Ask}
 use Rattle.lxr_one_pause.specs.declared.Pace.{Pace}
 use Rattle.lxr_one_pause.specs.Pausing.{IsDrained, Pauses}
+use Rattle.lxr_one_pause.specs.Telling.{with_retold}
 use Rattle.lxr_one_pause.proofs.PausingLemmas.{queues_swept}
 use Rattle.lxr_one_pause.proofs.RelocatingLemmas.{evacuates_still, relocates_still}
 use Rattle.lxr_one_pause.proofs.ReportLemmas.{entries_same}
@@ -47,10 +49,10 @@ counts_reported m r are =
     ∙ entries_same (count_entry m.state (unreclaimed_after m r) (union r.stuck m.stuck)) (count_entry m.state (unreclaimed_after m r) (stuck_after m r)) (unreclaimed_after m r)
     (λ n left. ap (λ b. record { name = n; count = cond b None (Some (references m.state (unreclaimed_after m r) n)) }) (sym (same_stuck m r n left)))
 
--- with anything told, a safepoint is one of the same state
-pub safepoint_told : (s : Space) (g : AbstractState) (told : List Count) → IsAtSafepoint s g → IsAtSafepoint (with_told s told) g
-safepoint_told s g told is =
-    let behind : Space = with_told s told in
+-- whatever is told, a safepoint is one of the same state
+pub safepoint_retold : (s : Space) (g : AbstractState) (by : Report) → IsAtSafepoint s g → IsAtSafepoint (with_retold s by) g
+safepoint_retold s g by is =
+    let behind : Space = with_retold s by in
     let room = is.holds.room.report in
     record {
       holds = holds_told s g.moment g.at behind.report s.tally s.pauses (record { promoted = room.promoted; dead = room.dead; stuck = room.stuck; swept = room.swept; told = room.told }) is.holds;
@@ -59,15 +61,22 @@ safepoint_told s g told is =
     }
 
 -- and a space between epochs is so
-pub quiescent_told : (s : Space) (g : AbstractState) (told : List Count) → IsQuiescent s g → IsQuiescent (with_told s told) g
-quiescent_told s g told is = record {
-  safepoint = safepoint_told s g told is.safepoint;
+pub quiescent_retold : (s : Space) (g : AbstractState) (by : Report) → IsQuiescent s g → IsQuiescent (with_retold s by) g
+quiescent_retold s g by is = record {
+  safepoint = safepoint_retold s g by is.safepoint;
   unwritten = is.unwritten;
   undecremented = is.undecremented;
   lines = is.lines;
   outs = is.outs;
   states = is.states;
 }
+
+-- counts alone may be told
+pub safepoint_told : (s : Space) (g : AbstractState) (told : List Count) → IsAtSafepoint s g → IsAtSafepoint (with_told s told) g
+safepoint_told s g told is = safepoint_retold s g (with_told s told).report is
+
+pub quiescent_told : (s : Space) (g : AbstractState) (told : List Count) → IsQuiescent s g → IsQuiescent (with_told s told) g
+quiescent_told s g told is = quiescent_retold s g (with_told s told).report is
 
 module _ (before after : Space) (g : AbstractState) (at' : Name → ℕ) (ask : Ask) (pace : Pace) (is : Pauses before after g at' ask pace) where
   abbrev r : PauseReport
@@ -92,21 +101,21 @@ module _ (before after : Space) (g : AbstractState) (at' : Name → ℕ) (ask : 
   pub told_behind : is_draining after.report.kind ≡ true → (told : Space) → ListsCounts after told then at' → HasToldCounts told.report
   told_behind drains told tells = tells.counts (can_count_behind drains) ∙ sym (counts_reported g.moment r (subst (AreCounts g.moment r) drains is.reports.1.counts)) ∙ sym (ap (λ (z : Space). z.report.counts.items) tells.space)
 
-  -- ---- the pause, with anything told behind it
+  -- ---- the pause, whatever is told after it
 
-  module _ (told : List Count) where
+  module _ (by : Report) where
     abbrev behind : Space
-    behind = with_told after told
+    behind = with_retold after by
 
     still_drained : (b : Bool) → IsDrained after b → IsDrained behind b
     still_drained false none = tt
     still_drained true none = none
 
-    pub pauses_told : Pauses before behind g at' ask pace
-    pauses_told = record {
+    pub pauses_retold : Pauses before behind g at' ask pace
+    pauses_retold = record {
       kind = is.kind;
       reports = is.reports;
-      between = quiescent_told after (paused g at' r) told is.between;
+      between = quiescent_retold after (paused g at' r) by is.between;
       moved = is.moved;
       kept = is.kept;
       evacuates = evacuates_still before after behind g at' then.unreclaimed (tables_of after).states refl is.moved is.kept refl refl refl is.evacuates;
@@ -124,5 +133,5 @@ module _ (before after : Space) (g : AbstractState) (at' : Name → ℕ) (ask : 
       chosen = is.chosen;
       beyond = is.beyond;
       traces = traces_still before after behind g at' r r then.unreclaimed refl refl (λ n. refl) (λ n. refl) after.report.kind g.moment.trace is.traces;
-      space = ap (λ (y : Space). with_told y told) is.space;
+      space = ap (λ (y : Space). with_retold y by) is.space;
     }

@@ -1,10 +1,10 @@
 -- What the small steps of a pause do: how its report begins, how its names are put in order, and how it is counted.
 use Rattle.std.specs.Prelude.{◌≡◌, ℕ, ◌+◌, ⊤, Bool, true, false, []}
 use Rattle.lxr_layout.specs.declared.Name.{Name}
-use Rattle.lxr_base.specs.Roomy.{Roomy, emptied}
+use Rattle.lxr_base.specs.Roomy.{emptied}
 use Rattle.lxr_graph.specs.declared.report.Kind.TheVariants.{Plain}
 use Rattle.lxr_graph.specs.declared.report.Report.{Report}
-use Rattle.lxr_graph.specs.Names.{union}
+use Rattle.lxr_graph.specs.Listing.{in_order, without_names}
 use Rattle.lxr_image.specs.declared.space.Space.{Space}
 use Rattle.lxr_graph.specs.Distinct.{IsDistinct}
 use Rattle.lxr_model.specs.Moments.{Moment}
@@ -16,10 +16,10 @@ abbrev pub begun : Report → ℕ → Report
 begun r number = record {
   number = number;
   kind = Plain;
-  promoted = emptied r.promoted;
-  dead = emptied r.dead;
-  stuck = emptied r.stuck;
-  swept = emptied r.swept;
+  promoted = without_names r.promoted;
+  dead = without_names r.dead;
+  stuck = without_names r.stuck;
+  swept = without_names r.swept;
   counts = record r.counts { items = [] };
   told = emptied r.told;
 }
@@ -28,10 +28,6 @@ begun r number = record {
 abbrev pub with_report_begun : Space → Space
 with_report_begun s = record s { report = begun s.report (s.pauses + 1) }
 
--- the same names in order, in the same room
-abbrev pub in_order : Roomy Name → Roomy Name
-in_order names = record names { items = union names.items [] }
-
 -- no list of a report has a name twice
 pub record HasDistinctNames (r : Report) : Type 0 where
   pub promoted : IsDistinct r.promoted.items
@@ -39,7 +35,7 @@ pub record HasDistinctNames (r : Report) : Type 0 where
   pub stuck : IsDistinct r.stuck.items
   pub swept : IsDistinct r.swept.items
 
--- the report with the names of each list in order
+-- the report with the names of each list in order; memory has them as they were found
 abbrev pub with_names_in_order : Report → Report
 with_names_in_order r = record r {
   promoted = in_order r.promoted;

@@ -23,7 +23,7 @@ use deciding::decide_kind;
 pub use laws::opened_can_pause;
 use lxr_blocks::settle_lines;
 use lxr_image::Space;
-use report::{count_where_drained, sort_report};
+use report::{count_where_drained, order_report};
 use tracing::trace_by_kind;
 
 /// What a pause is asked for.
@@ -73,7 +73,7 @@ pub fn one_pause(space: &mut Space, ask: Ask, pace: Pace)
     space.report.kind = kind;
     trace_by_kind(space, kind);
     settle_lines(space);
-    sort_report(&mut space.report);
+    order_report(&mut space.report);
     count_where_drained(space, kind);
     count_pause(space);
 }

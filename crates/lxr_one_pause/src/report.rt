@@ -1,13 +1,12 @@
 //! How a pause's report begins, and its names in order.
 ghost use Rattle.std.specs.Prelude.{◌≡◌, ℕ, ◌+◌, ◌^◌, ◌<◌};
-ghost use Rattle.lxr_graph.specs.Distinct.{IsDistinct};
 ghost use Rattle.lxr_layout.specs.declared.Name.{Name};
 ghost use Rattle.lxr_model.specs.Moments.{Moment};
 ghost use Rattle.lxr_model.specs.Reports.{is_draining};
-ghost use Rattle.lxr_one_pause.specs.Steps.{CanCountWhere, CountsWhere, HasDistinctNames, in_order, with_names_in_order, with_report_begun};
+ghost use Rattle.lxr_one_pause.specs.Steps.{CanCountWhere, CountsWhere, HasDistinctNames, with_names_in_order, with_report_begun};
 
 use lxr_base::Chronicle;
-use lxr_graph::{Kind, Names, Report, sort_names};
+use lxr_graph::{Kind, Report};
 use lxr_image::Space;
 use lxr_pause_queue::count_unreclaimed;
 
@@ -26,23 +25,15 @@ pub(crate) fn begin_report(space: &mut Space)
     space.report.told.clear();
 }
 
-/// Puts names into their order.
-fn put_in_order(names: &mut Names)
-    requires { IsDistinct names.old.items }
-    ensures { names.new ≡ in_order names.old }
-{
-    sort_names(names);
-}
-
-/// Puts the names of each list of a report into their order.
-pub(crate) fn sort_report(report: &mut Report)
+/// Puts the names of each list of a report into their order, for proofs alone: no name is looked at.
+pub(crate) fn order_report(report: &mut Report)
     requires { HasDistinctNames report.old }
     ensures { report.new ≡ with_names_in_order report.old }
 {
-    put_in_order(&mut report.promoted);
-    put_in_order(&mut report.dead);
-    put_in_order(&mut report.stuck);
-    put_in_order(&mut report.swept);
+    report.promoted.order();
+    report.dead.order();
+    report.stuck.order();
+    report.swept.order();
 }
 
 /// Reports the count of each unreclaimed object, for proofs alone, unless the pause is plain.

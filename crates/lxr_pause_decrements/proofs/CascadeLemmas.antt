@@ -7,10 +7,11 @@ use Rattle.std.proofs.lemmas.Bool.Decides.{eqb_tells}
 use Rattle.lxr_layout.specs.declared.Name.{Name}
 use Rattle.lxr_layout.specs.declared.Place.{Place}
 use Rattle.lxr_layout.specs.declared.limits.Limits.{Limits}
-use Rattle.lxr_layout.specs.declared.TheConstants.{GRANULES_IN_BLOCK, STUCK}
+use Rattle.lxr_layout.specs.declared.TheConstants.{GRANULES_IN_BLOCK, STUCK, TRACING_WORD}
 use Rattle.lxr_layout.specs.Objects.{word_count}
 use Rattle.lxr_layout.specs.Places.{first_word}
 use Rattle.lxr_base.specs.Roomy.{Roomy, pushed}
+use Rattle.lxr_graph.specs.Listing.{NameList, with_name}
 use Rattle.lxr_graph.specs.Names.{has, same_name, without}
 use Rattle.lxr_graph.specs.State.{Object, Graph, object_at, refs_of, shape_of}
 use Rattle.lxr_graph.proofs.NameSets.{same_itself, same_names, not_both, without_parts, in_without}
@@ -28,14 +29,14 @@ use Rattle.lxr_model_counting.specs.Distinct.{IsDistinct}
 use Rattle.lxr_model_counting.specs.Lowering.{IsLowered, LoweredAt, TakenFrom, once}
 use Rattle.lxr_model_counting.proofs.DistinctLemmas.{tested}
 use Rattle.lxr_model_counting.proofs.LoweringLemmas.{drops, lowered_still, lowers, once_other, once_same, stuck_stays}
-use Rattle.lxr_invariant.specs.Counting.{count_at}
+use Rattle.lxr_invariant.specs.Counting.{HasDecrements, count_at}
 use Rattle.lxr_invariant.specs.Lines.{HasMarks, IsMarkOf}
 use Rattle.lxr_blocks.specs.Lines.{line_behind, next_line}
 use Rattle.lxr_invariant.specs.Standing.{HasBits, IsUnwritten, place_of, word_of_field}
 use Rattle.lxr_invariant.proofs.NameLemmas.{distinct_more, has_more}
 use Rattle.lxr_invariant.proofs.EntryLemmas.{changed_here, changed_other, passing_cleared, unlike_number}
 use Rattle.lxr_invariant.proofs.PlaceLemmas.{line_mark, mark_line, same_object}
-use Rattle.lxr_invariant.proofs.FrameLemmas.{bits_still}
+use Rattle.lxr_invariant.proofs.FrameLemmas.{bits_still, marks_still}
 use Rattle.lxr_pause_decrements.specs.Cascade.{Cascade, CascadeStage, Ground, IsHeader, Remains, grayed_if, graying, kept, later, looking, waits}
 use Rattle.lxr_blocks.specs.Clearing.{without_counted, without_object}
 use Rattle.lxr_pause_decrements.proofs.GrayLemmas.{gray_starts, grays_fall, grays_step}
@@ -156,7 +157,7 @@ pub record BeginsAt (m : Moment) (at : Name → ℕ) (gone : List Name) (k : ℕ
   pub place : k + 1 ≡ at r
   pub granule : granule_of (at r) ≡ k
 
-pub started : (l : Limits) (t : Tables) (d : Roomy Name) (st : CascadeStage) (granule : ℕ) → Remains l t d st → IsTrue (t.starts granule) → (r : Name) × BeginsAt st.moment st.at st.gone granule r
+pub started : (l : Limits) (t : Tables) (d : NameList) (st : CascadeStage) (granule : ℕ) → Remains l t d st → IsTrue (t.starts granule) → (r : Name) × BeginsAt st.moment st.at st.gone granule r
 started l t d st granule is start =
     let x = is.bits.starts.only granule start in
     let a = without_parts st.moment.unreclaimed st.gone x.0 x.1 in
@@ -169,7 +170,7 @@ taken_out : (t : Tables) (st : CascadeStage) (r : Name) (rest : Name → ℕ) �
 taken_out t st r rest taken o = let e = taken o in omega (arith, e)
 
 -- what waits can be lowered
-pub counted : (l : Limits) (t : Tables) (w : Roomy Place) (d : Roomy Name) (st : CascadeStage) (r : Name) (rest : Name → ℕ) → Cascade l t w d st → IsTrue (has st.moment.unreclaimed r)
+pub counted : (l : Limits) (t : Tables) (w : Roomy Place) (d : NameList) (st : CascadeStage) (r : Name) (rest : Name → ℕ) → Cascade l t w d st → IsTrue (has st.moment.unreclaimed r)
     → TakenFrom st.extra r rest → 1 ≤ count_at t st.at r
 counted l t w d st r rest is in_r taken = elim (tested (has st.moment.stuck r)) [
   | inl k ↦ let e = is.remains.stuck r in_r k in omega (arith, e)
@@ -177,7 +178,7 @@ counted l t w d st r rest is in_r taken = elim (tested (has st.moment.stuck r)) 
 ]
 
 -- what has a count isn't gone
-pub counted_left : (l : Limits) (t : Tables) (w : Roomy Place) (d : Roomy Name) (st : CascadeStage) (r : Name) → Cascade l t w d st → IsTrue (has st.moment.unreclaimed r) → 1 ≤ count_at t st.at r
+pub counted_left : (l : Limits) (t : Tables) (w : Roomy Place) (d : NameList) (st : CascadeStage) (r : Name) → Cascade l t w d st → IsTrue (has st.moment.unreclaimed r) → 1 ≤ count_at t st.at r
     → (has st.gone r ≡ false) × IsTrue (has (kept st) r)
 counted_left l t w d st r is in_r some =
     let not_gone : IsTrue (has st.gone r) → ⊥ = λ k. let z = is.lowered.zero r k in omega (arith, z, some) in
@@ -229,7 +230,7 @@ marks_other heap blocks m at ground t v r gone in_r left_r is = record {
 }
 
 -- what is left, at another stage at which the same names are gone
-pub remains_still : (l : Limits) (t : Tables) (d : Roomy Name) (st : CascadeStage) (under : List Place) (work : List Name) (extra ungrayed unseen : Name → ℕ) → Remains l t d st
+pub remains_still : (l : Limits) (t : Tables) (d : NameList) (st : CascadeStage) (under : List Place) (work : List Name) (extra ungrayed unseen : Name → ℕ) → Remains l t d st
     → Remains l t d (record st { under = under; work = work; extra = extra; ungrayed = ungrayed; unseen = unseen })
 remains_still l t d st under work extra ungrayed unseen is = record {
   ground = is.ground;
@@ -247,8 +248,45 @@ remains_still l t d st under work extra ungrayed unseen is = record {
   dead_room = is.dead_room;
 }
 
+-- the tables with another list of decrements
+abbrev pub with_list : Tables → (ℕ → ℕ) → (ℕ → ℕ) → Tables
+with_list t decs cursors = record t { decs = decs; cursors = cursors }
+
+-- where the list of decrements is another one, and as much waits in it and beside it
+pub listed_else : (l : Limits) (t : Tables) (w : Roomy Place) (d : NameList) (st : CascadeStage) (decs cursors : ℕ → ℕ) (extra : Name → ℕ) → Cascade l t w d st → cursors TRACING_WORD ≡ t.cursors TRACING_WORD
+    → HasDecrements l (with_list t decs cursors) st.moment st.at
+    → ((o : Name) → IsTrue (has st.moment.unreclaimed o) → waits (with_list t decs cursors) (later st st.gone st.work extra) o ≡ waits t st o)
+    → Cascade l (with_list t decs cursors) w d (later st st.gone st.work extra)
+listed_else l t w d st decs cursors extra is tracing decrements waiting =
+    let m : Moment = st.moment in
+    let u : Tables = with_list t decs cursors in
+    record {
+      remains = remains_still l u d st st.under st.work extra st.ungrayed st.unseen (record {
+        ground = is.remains.ground;
+        stuck = is.remains.stuck;
+        below = is.remains.below;
+        bits = bits_still t u m st.at (kept st) refl refl refl refl refl is.remains.bits;
+        marks = marks_still t u m.state.graph st.at (kept st) refl is.remains.marks;
+        unused = is.remains.unused;
+        lost_marks = is.remains.lost_marks;
+        tracing = tracing ∙ is.remains.tracing;
+        decrements = decrements;
+        once = is.remains.once;
+        reported = is.remains.reported;
+        fewer = is.remains.fewer;
+        dead_room = is.remains.dead_room;
+      });
+      lowered = lowered_still m.last m.unreclaimed m.stuck st.gone (count_at t st.at) (count_at u st.at) (waits t st) (waits u (later st st.gone st.work extra)) (λ o _. refl) waiting is.lowered;
+      seen = is.seen;
+      none_done = is.none_done;
+      grays = is.grays;
+      work = is.work;
+      work_gone = is.work_gone;
+      work_room = is.work_room;
+    }
+
 -- a count that stays above zero
-pub sinks : (l : Limits) (t : Tables) (w : Roomy Place) (d : Roomy Name) (st : CascadeStage) (r : Name) (rest : Name → ℕ) (v : ℕ) → Cascade l t w d st → IsTrue (has st.moment.unreclaimed r)
+pub sinks : (l : Limits) (t : Tables) (w : Roomy Place) (d : NameList) (st : CascadeStage) (r : Name) (rest : Name → ℕ) (v : ℕ) → Cascade l t w d st → IsTrue (has st.moment.unreclaimed r)
     → TakenFrom st.extra r rest → has st.moment.stuck r ≡ false → 2 ≤ count_at t st.at r → v ≡ count_at t st.at r - 1
     → Cascade l (record t { counts = changed t.counts (granule_of (st.at r)) v }) w d (later st st.gone st.work rest)
 sinks l t w d st r rest v is in_r taken unstuck two v_is =
@@ -429,9 +467,9 @@ bare_uncounted t at r o none =
     ap (λ z. without_object (record t { counts = z }) (at r) (shape_of o)) same
 
 -- r goes: what is left without it
-pub remains_fall : (l : Limits) (t : Tables) (d : Roomy Name) (st : CascadeStage) (r : Name) (work : List Name) (extra : Name → ℕ) (ro : Object) → Remains l t d st
+pub remains_fall : (l : Limits) (t : Tables) (d : NameList) (st : CascadeStage) (r : Name) (work : List Name) (extra : Name → ℕ) (ro : Object) → Remains l t d st
     → IsTrue (has st.moment.unreclaimed r) → has st.gone r ≡ false → has st.moment.stuck r ≡ false → t.dones (granule_of (st.at r)) ≡ false → object_at st.moment.state.graph r ≡ Some ro
-    → Remains l (bare t st.at r ro) (pushed d r) (later st (r ∷ st.gone) work extra)
+    → Remains l (bare t st.at r ro) (with_name d r) (later st (r ∷ st.gone) work extra)
 remains_fall l t d st r work extra ro is in_r not_gone unstuck not_done has_ro =
     let m : Moment = st.moment in
     let g : ℕ = granule_of (st.at r) in
@@ -456,11 +494,11 @@ remains_fall l t d st r work extra ro is in_r not_gone unstuck not_done has_ro =
     }
 
 -- r goes and waits in the worklist, where its count is lowered already
-goes : (l : Limits) (t : Tables) (w : Roomy Place) (d : Roomy Name) (st : CascadeStage) (r : Name) (rest : Name → ℕ) (ro : Object) (unseen : Name → ℕ) → Cascade l t w d st
+goes : (l : Limits) (t : Tables) (w : Roomy Place) (d : NameList) (st : CascadeStage) (r : Name) (rest : Name → ℕ) (ro : Object) (unseen : Name → ℕ) → Cascade l t w d st
     → IsTrue (has st.moment.unreclaimed r) → has st.gone r ≡ false → has st.moment.stuck r ≡ false → object_at st.moment.state.graph r ≡ Some ro
     → IsLowered st.moment.last st.moment.unreclaimed st.moment.stuck st.gone (count_at (bare t st.at r ro) st.at) (waits t (later st st.gone st.work rest))
     → ((n : Name) → IsTrue (has st.moment.unreclaimed n) → same_name n r ≡ false → unseen n ≡ 0 → st.unseen n ≡ 0)
-    → Cascade l (bare t st.at r ro) (pushed w (place_of st.at r)) (pushed d r) (looking (later st (r ∷ st.gone) (st.work ++ r ∷ []) rest) unseen)
+    → Cascade l (bare t st.at r ro) (pushed w (place_of st.at r)) (with_name d r) (looking (later st (r ∷ st.gone) (st.work ++ r ∷ []) rest) unseen)
 goes l t w d st r rest ro unseen is in_r not_gone unstuck has_ro lowered before =
     let m : Moment = st.moment in
     let g : ℕ = granule_of (st.at r) in
@@ -472,7 +510,7 @@ goes l t w d st r rest ro unseen is in_r not_gone unstuck has_ro lowered before 
     let unwiped = count_bare t.heap l.blocks m st.at ground t r ro in_r has_ro in
     let cleared_r : count_at t2 st.at r ≡ 0 = unwiped r in_r ∙ written_same st.at t.counts 0 r r (same_itself r) in
     record {
-      remains = remains_still l t2 (pushed d r) (later st (r ∷ st.gone) (st.work ++ r ∷ []) rest) st.under (st.work ++ r ∷ []) rest st.ungrayed unseen
+      remains = remains_still l t2 (with_name d r) (later st (r ∷ st.gone) (st.work ++ r ∷ []) rest) st.under (st.work ++ r ∷ []) rest st.ungrayed unseen
           (remains_fall l t d st r (st.work ++ r ∷ []) rest ro is.remains in_r not_gone unstuck (is.none_done g) has_ro);
       lowered = drops m.last m.unreclaimed m.stuck st.gone (count_at t2 st.at) (waits t (later st st.gone st.work rest)) (waits t (later st (r ∷ st.gone) (st.work ++ r ∷ []) rest)) r
           lowered ground.distinct in_r unstuck not_gone cleared_r (λ o. let e = refs_more m.last.graph st.work r o in omega (arith, e));
@@ -492,9 +530,9 @@ goes l t w d st r rest ro unseen is in_r not_gone unstuck has_ro lowered before 
     }
 
 -- the last count goes
-pub falls : (l : Limits) (t : Tables) (w : Roomy Place) (d : Roomy Name) (st : CascadeStage) (r : Name) (rest : Name → ℕ) (ro : Object) → Cascade l t w d st → IsTrue (has st.moment.unreclaimed r)
+pub falls : (l : Limits) (t : Tables) (w : Roomy Place) (d : NameList) (st : CascadeStage) (r : Name) (rest : Name → ℕ) (ro : Object) → Cascade l t w d st → IsTrue (has st.moment.unreclaimed r)
     → TakenFrom st.extra r rest → has st.moment.stuck r ≡ false → count_at t st.at r ≡ 1 → object_at st.moment.state.graph r ≡ Some ro
-    → Cascade l (bare t st.at r ro) (pushed w (place_of st.at r)) (pushed d r) (later st (r ∷ st.gone) (st.work ++ r ∷ []) rest)
+    → Cascade l (bare t st.at r ro) (pushed w (place_of st.at r)) (with_name d r) (later st (r ∷ st.gone) (st.work ++ r ∷ []) rest)
 falls l t w d st r rest ro is in_r taken unstuck one has_ro =
     let m : Moment = st.moment in
     let ground = is.remains.ground in
@@ -506,9 +544,9 @@ falls l t w d st r rest ro is in_r taken unstuck one has_ro =
     (λ n in_n other passed. passed)
 
 -- an object without a count goes where it is looked at
-pub dropped : (l : Limits) (t : Tables) (w : Roomy Place) (d : Roomy Name) (st : CascadeStage) (r : Name) (ro : Object) (unseen : Name → ℕ) → Cascade l t w d st → IsTrue (has st.moment.unreclaimed r)
+pub dropped : (l : Limits) (t : Tables) (w : Roomy Place) (d : NameList) (st : CascadeStage) (r : Name) (ro : Object) (unseen : Name → ℕ) → Cascade l t w d st → IsTrue (has st.moment.unreclaimed r)
     → has st.gone r ≡ false → count_at t st.at r ≡ 0 → ((n : Name) → IsTrue (has st.moment.unreclaimed n) → st.unseen n ≡ once n r + unseen n) → object_at st.moment.state.graph r ≡ Some ro
-    → Cascade l (bare t st.at r ro) (pushed w (place_of st.at r)) (pushed d r) (looking (later st (r ∷ st.gone) (st.work ++ r ∷ []) st.extra) unseen)
+    → Cascade l (bare t st.at r ro) (pushed w (place_of st.at r)) (with_name d r) (looking (later st (r ∷ st.gone) (st.work ++ r ∷ []) st.extra) unseen)
 dropped l t w d st r ro unseen is in_r not_gone none taken has_ro =
     let m : Moment = st.moment in
     let ground = is.remains.ground in
@@ -519,7 +557,7 @@ dropped l t w d st r ro unseen is in_r not_gone none taken has_ro =
     (λ n in_n other passed. let all = taken n in_n in let apart = once_other n r other in omega (arith, all, apart, passed))
 
 -- nothing goes where what is looked at has a count or is gone
-pub looked : (l : Limits) (t : Tables) (w : Roomy Place) (d : Roomy Name) (st : CascadeStage) (r : Name) (unseen : Name → ℕ) → Cascade l t w d st
+pub looked : (l : Limits) (t : Tables) (w : Roomy Place) (d : NameList) (st : CascadeStage) (r : Name) (unseen : Name → ℕ) → Cascade l t w d st
     → ((n : Name) → IsTrue (has st.moment.unreclaimed n) → st.unseen n ≡ once n r + unseen n) → (count_at t st.at r ≡ 0 → IsTrue (has st.gone r)) → Cascade l t w d (looking st unseen)
 looked l t w d st r unseen is taken gone = record {
   remains = remains_still l t d st st.under st.work st.extra st.ungrayed unseen is.remains;
@@ -536,7 +574,7 @@ looked l t w d st r unseen is taken gone = record {
 }
 
 -- what the dead r referred to is made gray, if a trace runs
-pub made_gray : (l : Limits) (t : Tables) (w : Roomy Place) (d : Roomy Name) (st : CascadeStage) (tracing : Bool) (h : Name → ℕ) (r n : Name) → Cascade l t w d st
+pub made_gray : (l : Limits) (t : Tables) (w : Roomy Place) (d : NameList) (st : CascadeStage) (tracing : Bool) (h : Name → ℕ) (r n : Name) → Cascade l t w d st
     → tracing ≡ is_tracing t → Dead st.moment.last st.moment.unreclaimed st.moment.stuck r → Refers st.moment.last.graph r n → IsTrue (has (kept st) n)
     → ((o : Name) → st.ungrayed o ≡ once o n + h o) → Cascade l (record t { grays = grayed_if tracing t.grays (granule_of (st.at n)) }) w d (graying st h)
 made_gray l t w d st tracing h r n is told was_dead refers left taken =
@@ -577,7 +615,7 @@ made_gray l t w d st tracing h r n is told was_dead refers left taken =
 
 -- ---- every lowering but the last
 
-is_stuck : (l : Limits) (t : Tables) (w : Roomy Place) (d : Roomy Name) (st : CascadeStage) (r : Name) (rest : Name → ℕ) → Cascade l t w d st → TakenFrom st.extra r rest
+is_stuck : (l : Limits) (t : Tables) (w : Roomy Place) (d : NameList) (st : CascadeStage) (r : Name) (rest : Name → ℕ) → Cascade l t w d st → TakenFrom st.extra r rest
     → IsTrue (has st.moment.stuck r) → Cascade l t w d (later st st.gone st.work rest)
 is_stuck l t w d st r rest is taken stuck_r = record {
   remains = remains_still l t d st st.under st.work rest st.ungrayed st.unseen is.remains;
@@ -606,7 +644,7 @@ not_zero_means n h e = h (ap lowered_of e)
 to_less : (n : ℕ) → n < STUCK → lowered_count n ≡ n - 1
 to_less n h = ap (λ b. cond b STUCK (n - 1)) (unlike_number n STUCK (λ e. omega arith))
 
-pub goes_on : (l : Limits) (t : Tables) (w : Roomy Place) (d : Roomy Name) (st : CascadeStage) (r : Name) (rest : Name → ℕ) → Cascade l t w d st → IsTrue (has st.moment.unreclaimed r)
+pub goes_on : (l : Limits) (t : Tables) (w : Roomy Place) (d : NameList) (st : CascadeStage) (r : Name) (rest : Name → ℕ) → Cascade l t w d st → IsTrue (has st.moment.unreclaimed r)
     → TakenFrom st.extra r rest → (lowered_of (count_at t st.at r) ≡ Zero → ⊥)
     → Cascade l (record t { counts = changed t.counts (granule_of (st.at r)) (lowered_count (count_at t st.at r)) }) w d (later st st.gone st.work rest)
 goes_on l t w d st r rest is in_r taken more = elim (tested (has st.moment.stuck r)) [
@@ -622,10 +660,10 @@ goes_on l t w d st r rest is in_r taken more = elim (tested (has st.moment.stuck
 ]
 
 -- a name of which the last count goes isn't stuck
-pub last_unstuck : (l : Limits) (t : Tables) (w : Roomy Place) (d : Roomy Name) (st : CascadeStage) (r : Name) → Cascade l t w d st → IsTrue (has st.moment.unreclaimed r) → count_at t st.at r ≡ 1
+pub last_unstuck : (l : Limits) (t : Tables) (w : Roomy Place) (d : NameList) (st : CascadeStage) (r : Name) → Cascade l t w d st → IsTrue (has st.moment.unreclaimed r) → count_at t st.at r ≡ 1
     → has st.moment.stuck r ≡ false
 last_unstuck l t w d st r is in_r one = elim (tested (has st.moment.stuck r)) [ inl k ↦ absurd (let e = is.remains.stuck r in_r k in omega (arith, e, one)) | inr k ↦ k ]
 
-pub same_parts : (l m : Limits) (t u : Tables) (w x : Roomy Place) (d e : Roomy Name) (st : CascadeStage) → m ≡ l → u ≡ t → x ≡ w → e ≡ d → Cascade l t w d st → Cascade m u x e st
+pub same_parts : (l m : Limits) (t u : Tables) (w x : Roomy Place) (d e : NameList) (st : CascadeStage) → m ≡ l → u ≡ t → x ≡ w → e ≡ d → Cascade l t w d st → Cascade m u x e st
 same_parts l m t u w x d e st a b c f is =
     subst (λ z. Cascade m u x z st) (sym f) (subst (λ z. Cascade m u z d st) (sym c) (subst (λ z. Cascade m z w d st) (sym b) (subst (λ z. Cascade z t w d st) (sym a) is)))

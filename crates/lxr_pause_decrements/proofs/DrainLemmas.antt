@@ -28,11 +28,10 @@ use Rattle.lxr_invariant.specs.Counting.{count_at, entries_between, occurrences_
 use Rattle.lxr_invariant.specs.Standing.{place_of}
 use Rattle.lxr_invariant.proofs.NameLemmas.{has_more, occurrences_end, occurrences_step, split_last}
 use Rattle.lxr_invariant.proofs.EntryLemmas.{changed_here, changed_other, same_number, unlike_number}
-use Rattle.lxr_invariant.proofs.FrameLemmas.{bits_still, marks_still}
 use Rattle.lxr_invariant.proofs.KeepingLemmas.{keeps_same}
-use Rattle.lxr_pause_decrements.specs.Cascade.{Cascade, CascadeStage, Drains, FieldWaits, Ground, HasField, IsAt, IsBetween, IsEmptied, IsHeader, IsOpening, Keeps, Leaves, Reaches, Releasing, Waiting, grayed_if, graying, held_by, kept, later, to_do, waits, with_lists}
+use Rattle.lxr_pause_decrements.specs.Cascade.{Cascade, CascadeStage, Drains, FieldWaits, Ground, HasField, IsAt, IsBetween, IsEmptied, IsHeader, IsOpening, Keeps, Leaves, Reaches, Releasing, Waiting, grayed_if, graying, held_by, later, to_do, waits, with_length, with_lists}
 use Rattle.lxr_pause_decrements.proofs.GrayLemmas.{grays_pop}
-use Rattle.lxr_pause_decrements.proofs.CascadeLemmas.{counted, counted_left, granules_differ, in_heap, made_gray, refs_more, remains_still, same_parts}
+use Rattle.lxr_pause_decrements.proofs.CascadeLemmas.{counted, counted_left, granules_differ, in_heap, listed_else, made_gray, refs_more, remains_still, same_parts}
 use Rattle.lxr_pause_decrements.proofs.SpaceLemmas.{leaves_by, turned_leaves}
 
 -- ---- references from a number on
@@ -335,12 +334,8 @@ emptied s st short (gone, work, at) =
 
 -- ---- the list of decrements
 
--- the tables with a shorter list of decrements
-abbrev pub with_length : Tables → ℕ → Tables
-with_length t n = record t { cursors = changed t.cursors DECREMENT_COUNT n }
-
 -- the last entry of a list, where it isn't drawn, and those before it
-waiting_more : (t : Tables) (n p : ℕ) → t.cursors DECREMENT_CURSOR ≤ n → t.cursors DECREMENT_COUNT ≡ suc n → waiting_at t p ≡ cond (nat_eq (t.decs n) p) 1 0 + waiting_at (with_length t n) p
+pub waiting_more : (t : Tables) (n p : ℕ) → t.cursors DECREMENT_CURSOR ≤ n → t.cursors DECREMENT_COUNT ≡ suc n → waiting_at t p ≡ cond (nat_eq (t.decs n) p) 1 0 + waiting_at (with_length t n) p
 waiting_more t n p undrawn some =
     let c : ℕ = t.cursors DECREMENT_CURSOR in
     let here : nat_le c n ≡ true = grind (arith, nat_tests) in
@@ -375,37 +370,16 @@ last_taken s now st n at undrawn some turns =
     let st2 : CascadeStage = later st st.gone st.work (λ o. st.extra o + once o x.0) in
     let t2 : Tables = with_length t n in
     let shorter : t2.cursors DECREMENT_COUNT ≡ n = changed_here t.cursors DECREMENT_COUNT n 6 refl in
-    let cascade : Cascade s.limits t2 s.work s.report.dead st2 = record {
-      remains = record {
-        ground = is.remains.ground;
-        stuck = is.remains.stuck;
-        below = is.remains.below;
-        bits = bits_still t t2 m st.at (kept st) refl refl refl refl refl is.remains.bits;
-        marks = marks_still t t2 m.state.graph st.at (kept st) refl is.remains.marks;
-        unused = is.remains.unused;
-        lost_marks = is.remains.lost_marks;
-        tracing = changed_other t.cursors DECREMENT_COUNT n TRACING_WORD (λ e. omega arith) ∙ is.remains.tracing;
-        decrements = record {
-          fits = let d = is.remains.decrements.fits in omega (arith, d, some, shorter);
-          places = λ k h. is.remains.decrements.places k (omega (arith, h, some, shorter));
-        };
-        once = is.remains.once;
-        reported = is.remains.reported;
-        fewer = is.remains.fewer;
-        dead_room = is.remains.dead_room;
-      };
-      lowered = lowered_still m.last m.unreclaimed m.stuck st.gone (count_at t st.at) (count_at t2 st.at) (waits t st) (waits t2 st2) (λ o _. refl)
-          (λ o in_o.
-          let q = waiting_more t n (st.at o) undrawn some in
-          let k = entry_once t.heap s.limits.blocks m st.at is.remains.ground (t.decs n) x.0 x.1 x.2 o in_o in
-          omega (arith, q, k)) is.lowered;
-      seen = is.seen;
-      none_done = is.none_done;
-      grays = is.grays;
-      work = is.work;
-      work_gone = is.work_gone;
-      work_room = is.work_room;
-    } in (
+    let cascade : Cascade s.limits t2 s.work s.report.dead st2 =
+    listed_else s.limits t s.work s.report.dead st t.decs t2.cursors (λ o. st.extra o + once o x.0) is (changed_other t.cursors DECREMENT_COUNT n TRACING_WORD (λ e. omega arith))
+    (record {
+      fits = let d = is.remains.decrements.fits in omega (arith, d, some, shorter);
+      places = λ k h. is.remains.decrements.places k (omega (arith, h, some, shorter));
+    })
+    (λ o in_o.
+    let q = waiting_more t n (st.at o) undrawn some in
+    let k = entry_once t.heap s.limits.blocks m st.at is.remains.ground (t.decs n) x.0 x.1 x.2 o in_o in
+    omega (arith, q, k)) in (
       x.0,
       record {
         stage = record {
@@ -484,34 +458,12 @@ list_emptied s now st is past turns =
     let m : Moment = st.moment in
     let c = is.stage.cascade in
     let waiting = none_waits t in
-    let cascade : Cascade s.limits t2 s.work s.report.dead st = record {
-      remains = record {
-        ground = c.remains.ground;
-        stuck = c.remains.stuck;
-        below = c.remains.below;
-        bits = bits_still t t2 m st.at (kept st) refl refl refl refl refl c.remains.bits;
-        marks = marks_still t t2 m.state.graph st.at (kept st) refl c.remains.marks;
-        unused = c.remains.unused;
-        lost_marks = c.remains.lost_marks;
-        tracing = none_traced t ∙ c.remains.tracing;
-        decrements = record { fits = omega (arith, waiting); places = λ k h. absurd (omega (arith, h, waiting)) };
-        once = c.remains.once;
-        reported = c.remains.reported;
-        fewer = c.remains.fewer;
-        dead_room = c.remains.dead_room;
-      };
-      lowered = lowered_still m.last m.unreclaimed m.stuck st.gone (count_at t st.at) (count_at t2 st.at) (waits t st) (waits t2 st) (λ o _. refl)
-          (λ o _.
-          let before = none_between t.decs (t.cursors DECREMENT_CURSOR) (t.cursors DECREMENT_COUNT) (st.at o) past in
-          let after = none_between t.decs (t2.cursors DECREMENT_CURSOR) (t2.cursors DECREMENT_COUNT) (st.at o) (omega (arith, waiting)) in
-          omega (arith, before, after)) c.lowered;
-      seen = c.seen;
-      none_done = c.none_done;
-      grays = c.grays;
-      work = c.work;
-      work_gone = c.work_gone;
-      work_room = c.work_room;
-    } in
+    let cascade : Cascade s.limits t2 s.work s.report.dead st =
+    listed_else s.limits t s.work s.report.dead st t.decs t2.cursors st.extra c (none_traced t) (record { fits = omega (arith, waiting); places = λ k h. absurd (omega (arith, h, waiting)) })
+    (λ o _.
+    let before = none_between t.decs (t.cursors DECREMENT_CURSOR) (t.cursors DECREMENT_COUNT) (st.at o) past in
+    let after = none_between t.decs (t2.cursors DECREMENT_CURSOR) (t2.cursors DECREMENT_COUNT) (st.at o) (omega (arith, waiting)) in
+    omega (arith, before, after)) in
     record {
       opening = record {
         stage = record {

@@ -5,6 +5,7 @@ use Rattle.std.proofs.lemmas.Bool.{and_parts, or_left}
 use Rattle.std.proofs.lemmas.Bool.Decides.{leb_tells, nat_tests}
 use Rattle.std.proofs.lemmas.List.{length-map}
 use Rattle.lxr_base.specs.Roomy.{pushed}
+use Rattle.lxr_graph.specs.Listing.{with_name}
 use Rattle.lxr_layout.specs.declared.TheConstants.{DECREMENT_COUNT, DECREMENT_CURSOR, GRANULES_IN_BLOCK, MOST_GRANULES}
 use Rattle.lxr_layout.specs.declared.Name.{Name}
 use Rattle.lxr_layout.specs.declared.Place.{Place}
@@ -117,7 +118,7 @@ module _ (s : Space) (p : Place) (floor : ℕ) (st : CascadeStage) (r : Name) (r
       let tables : tables_of e ≡ bare t st.at r ro = re.tables ∙ ap (λ q. without_object t q (shape_of ro)) is.stands ∙ bare_uncounted t st.at r ro there.1 in
       let same_place : p ≡ place_of st.at r = λ i. record { 0 = is.stands i } in
       let work : e.work ≡ pushed s.work (place_of st.at r) = ap (λ z. z.work) re.rest ∙ ap (pushed s.work) same_place in
-      let dead : e.report.dead ≡ pushed s.report.dead r = ap (λ z. z.report.dead) re.rest in
+      let dead : e.report.dead ≡ with_name s.report.dead r = ap (λ z. z.report.dead) re.rest in
       record {
         space = space_alike s e limits (ap (λ z. z.size) re.tables) is.looking.stage.space;
         cascade = same_parts s.limits e.limits _ (tables_of e) _ e.work _ e.report.dead (looking (later st (r ∷ st.gone) (st.work ++ r ∷ []) st.extra) rest) limits tables work dead

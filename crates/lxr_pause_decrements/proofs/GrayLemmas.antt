@@ -207,3 +207,17 @@ grays_end (Some trace) before after m at gone names work ungrayed same left empt
       reclaimed = λ n h. is.reclaimed n (sym (same n) ∙ h);
       others = is.others;
     }
+
+-- ---- where no trace runs
+
+-- bits were lost alone
+pub grays_lost : (trace : Option Trace) (before after : ℕ → Bool) (m : Moment) (at : Name → ℕ) (gone work : List Name) (ungrayed : Name → ℕ) → trace ≡ None
+    → AreGrayed trace before after m at gone work ungrayed → LosesBits before after at gone
+grays_lost None before after m at gone work ungrayed none is = is
+grays_lost (Some trace) before after m at gone work ungrayed none is = absurd (cc)
+
+-- and the worklist is nothing to them
+pub grays_untraced : (trace : Option Trace) (before after : ℕ → Bool) (m : Moment) (at : Name → ℕ) (gone work others : List Name) (ungrayed : Name → ℕ) → trace ≡ None
+    → AreGrayed trace before after m at gone work ungrayed → AreGrayed trace before after m at gone others ungrayed
+grays_untraced None before after m at gone work others ungrayed none is = is
+grays_untraced (Some trace) before after m at gone work others ungrayed none is = absurd (cc)

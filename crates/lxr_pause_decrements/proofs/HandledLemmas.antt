@@ -7,6 +7,7 @@ use Rattle.lxr_layout.specs.declared.Place.{Place}
 use Rattle.lxr_layout.specs.declared.Shape.{Shape}
 use Rattle.lxr_layout.specs.Places.{IsPlace, field_word, first_word}
 use Rattle.lxr_base.specs.Roomy.{pushed}
+use Rattle.lxr_graph.specs.Listing.{with_name}
 use Rattle.lxr_graph.specs.State.{Object, shape_of}
 use Rattle.lxr_image.specs.declared.space.Space.{Space}
 use Rattle.lxr_image.specs.Tables.{Tables, changed}
@@ -77,7 +78,7 @@ module _ (s : Space) (p : Place) (st : CascadeStage) (is : IsHandling s st) (pla
       re.tables ∙ ap (λ z. without_object z p.0 (shape_of ro)) turns.tables ∙ ap (λ q. without_object (without_bit t (granule_of q)) q (shape_of ro)) stands in
       let same_place : p ≡ place_of st.at r = λ i. record { 0 = stands i } in
       let work : e.work ≡ pushed s.work (place_of st.at r) = ap (λ z. z.work) re.rest ∙ ap (λ z. pushed z.work p) turns.rest ∙ ap (pushed s.work) same_place in
-      let dead : e.report.dead ≡ pushed s.report.dead r = ap (λ z. z.report.dead) re.rest ∙ ap (λ z. pushed z.report.dead r) turns.rest in
+      let dead : e.report.dead ≡ with_name s.report.dead r = ap (λ z. z.report.dead) re.rest ∙ ap (λ z. with_name z.report.dead r) turns.rest in
       record {
         space = reclaimed_space b e p r (shape_of ro) re (still_space s b _ is.space turns refl);
         handling = same_handling s.limits e.limits _ (tables_of e) _ e.work _ e.report.dead (later st (r ∷ st.gone) st.work st.extra) limits tables work dead

@@ -5,6 +5,7 @@ use Rattle.std.proofs.lemmas.List.{length-map, length-reverse, reverse-append}
 use Rattle.std.proofs.lemmas.Bool.{and_right, or_cases, or_left, or_right}
 use Rattle.std.proofs.lemmas.Bool.Decides.{eqb_tells, leb_tells, nat_tests}
 use Rattle.lxr_base.specs.Roomy.{Roomy, pushed}
+use Rattle.lxr_graph.specs.Listing.{NameList, with_name}
 use Rattle.lxr_layout.specs.declared.TheConstants.{DECREMENT_COUNT, DECREMENT_CURSOR, GRANULES_IN_BLOCK}
 use Rattle.lxr_layout.specs.declared.Name.{Name}
 use Rattle.lxr_layout.specs.declared.Place.{Place}
@@ -49,7 +50,7 @@ filtered_same p q f g (u ∷ us) same =
 abbrev pub without_done : Tables → (Name → ℕ) → Name → Object → Tables
 without_done t at r o = record (without_object t (at r) (shape_of o)) { dones = changed t.dones (granule_of (at r)) false }
 
-module _ (l : Limits) (t : Tables) (w : Roomy Place) (d : Roomy Name) (st : CascadeStage) (r : Name) (ro : Object) (is : Handling l t w d st) (in_r : IsTrue (has st.moment.unreclaimed r))
+module _ (l : Limits) (t : Tables) (w : Roomy Place) (d : NameList) (st : CascadeStage) (r : Name) (ro : Object) (is : Handling l t w d st) (in_r : IsTrue (has st.moment.unreclaimed r))
     (not_gone : has st.gone r ≡ false) (done : IsTrue (is_done t st.at r)) (has_ro : object_at st.moment.state.graph r ≡ Some ro) where
   abbrev m : Moment
   m = st.moment
@@ -117,9 +118,9 @@ module _ (l : Limits) (t : Tables) (w : Roomy Place) (d : Roomy Name) (st : Casc
   ]
 
   -- r is reclaimed
-  pub handled : Handling l (without_done t st.at r ro) (pushed w (place_of st.at r)) (pushed d r) (later st (r ∷ st.gone) st.work st.extra)
+  pub handled : Handling l (without_done t st.at r ro) (pushed w (place_of st.at r)) (with_name d r) (later st (r ∷ st.gone) st.work st.extra)
   handled = record {
-    remains = subst (λ z. Remains l z (pushed d r) (later st (r ∷ st.gone) st.work st.extra)) (sym same_tables)
+    remains = subst (λ z. Remains l z (with_name d r) (later st (r ∷ st.gone) st.work st.extra)) (sym same_tables)
         (remains_fall l undone_there d st r st.work st.extra ro left_undone in_r not_gone unstuck (changed_here t.dones g false g refl) has_ro);
     exact = λ n in_n loose. count_then n in_n ∙ is.exact n in_n loose ∙ ap (λ us. references m.last us n + waiting_at t (st.at n)) (sym undone_stays);
     held = is.held;
@@ -193,7 +194,7 @@ listed_none f drawn (suc n) p before behind = elim (leb_tells drawn n) [
 ]
 
 -- where nothing is done, exactly what is in the list waits, and what has no count and is left is to be looked at
-pub handled_all : (l : Limits) (t : Tables) (w : Roomy Place) (d : Roomy Name) (st : CascadeStage) → Handling l t w d st → ((k : ℕ) → t.dones k ≡ false)
+pub handled_all : (l : Limits) (t : Tables) (w : Roomy Place) (d : NameList) (st : CascadeStage) → Handling l t w d st → ((k : ℕ) → t.dones k ≡ false)
     → Cascade l t w d (seeking (later st st.gone [] (λ o. 0)) (reverse st.gone) (λ o. drawn_from t 0 (st.at o)))
 handled_all l t w d st is none =
     let m : Moment = st.moment in
@@ -225,7 +226,7 @@ handled_all l t w d st is none =
     }
 
 -- there is room for one more place in the worklist while an object is left
-pub handling_room : (l : Limits) (t : Tables) (w : Roomy Place) (d : Roomy Name) (st : CascadeStage) → Handling l t w d st → 1 ≤ passing t.starts (GRANULES_IN_BLOCK * l.blocks) → length w.items < w.room
+pub handling_room : (l : Limits) (t : Tables) (w : Roomy Place) (d : NameList) (st : CascadeStage) → Handling l t w d st → 1 ≤ passing t.starts (GRANULES_IN_BLOCK * l.blocks) → length w.items < w.room
 handling_room l t w d st is some =
     let fewer = is.remains.fewer in
     let few = passing_few st.was.starts (GRANULES_IN_BLOCK * l.blocks) in
@@ -236,7 +237,7 @@ handling_room l t w d st is some =
 -- ---- at spaces
 
 -- a stage is one of the limits, the tables and the lists alone
-pub same_handling : (l m : Limits) (t u : Tables) (w x : Roomy Place) (d e : Roomy Name) (st : CascadeStage) → m ≡ l → u ≡ t → x ≡ w → e ≡ d → Handling l t w d st → Handling m u x e st
+pub same_handling : (l m : Limits) (t u : Tables) (w x : Roomy Place) (d e : NameList) (st : CascadeStage) → m ≡ l → u ≡ t → x ≡ w → e ≡ d → Handling l t w d st → Handling m u x e st
 same_handling l m t u w x d e st a b c f is =
     subst (λ z. Handling m u x z st) (sym f) (subst (λ z. Handling m u z d st) (sym c) (subst (λ z. Handling m z w d st) (sym b) (subst (λ z. Handling z t w d st) (sym a) is)))
 

@@ -6,6 +6,7 @@ pub mod SpaceLemmas
 pub mod HandlingLemmas
 pub mod DrainLemmas
 pub mod DropLemmas
+pub mod SliceLemmas
 pub mod BridgeLemmas
 pub mod OpenedLemmas
 pub mod HandledLemmas

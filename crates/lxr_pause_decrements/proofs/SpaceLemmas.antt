@@ -6,6 +6,7 @@ use Rattle.lxr_layout.specs.declared.Place.{Place}
 use Rattle.lxr_layout.specs.declared.Shape.{Shape}
 use Rattle.lxr_layout.specs.Places.{IsPlace}
 use Rattle.lxr_base.specs.Roomy.{Roomy, pushed}
+use Rattle.lxr_graph.specs.Listing.{NameList, with_name}
 use Rattle.lxr_graph.specs.State.{shape_of}
 use Rattle.lxr_tables.specs.Counts.{lowered_count, lowered_of}
 use Rattle.lxr_tables.specs.declared.counts.Lowered.TheVariants.{Zero}
@@ -18,23 +19,24 @@ use Rattle.lxr_invariant.specs.Counting.{count_at, passing}
 use Rattle.lxr_invariant.specs.Standing.{place_of}
 use Rattle.lxr_invariant.proofs.EntryLemmas.{passing_cleared}
 use Rattle.lxr_invariant.proofs.KeepingLemmas.{keeps_both as lists_both, keeps_same}
-use Rattle.lxr_pause_decrements.specs.Cascade.{Buries, CascadeStage, Keeps, Leaves, Reaches, Reclaims, TablesStay, Waiting, later, to_do, with_lists}
+use Rattle.lxr_pause_decrements.specs.Cascade.{Buries, CascadeStage, IsAt, Keeps, Leaves, LeavesBy, Reaches, Reclaims, TablesStay, Waiting, later, to_do, with_lists}
 use Rattle.lxr_blocks.specs.Clearing.{without_object}
 use Rattle.lxr_pause_decrements.proofs.CascadeLemmas.{IsPlaced, bare, counted, counted_left, falls, goes_on, in_heap, last_unstuck, placed, same_parts, zero_means}
 
 -- ---- what is left as it was
 
-pub leaves_by : (a e : Space) (w : Roomy Place) (d : Roomy Name) → e ≡ with_lists a e.words w d → w.room ≡ a.work.room → d.room ≡ a.report.dead.room
+pub leaves_by : (a e : Space) (w : Roomy Place) (d : NameList) → e ≡ with_lists a e.words w d → w.room ≡ a.work.room → d ≡ record a.report.dead { items = d.items }
     → TablesStay (tables_of a) (tables_of e) → Leaves a e
-leaves_by a e w d rest work_room dead_room tables = record {
+leaves_by a e w d rest work_room dead tables = record {
   tables = tables;
   rest = rest ∙ ap {A = Space} (λ s. with_lists a e.words s.work s.report.dead) (sym rest);
   work_room = ap (λ s. s.work.room) rest ∙ work_room;
-  dead_room = ap (λ s. s.report.dead.room) rest ∙ dead_room;
+  dead_room = ap (λ s. s.report.dead.room) rest ∙ ap (λ (l : NameList). l.room) dead;
+  dead_listed = ap (λ s. s.report.dead.listed) rest ∙ ap (λ (l : NameList). l.listed) dead;
 }
 
 pub leaves_none : (a : Space) → Leaves a a
-leaves_none a = record { tables = record { keeps = keeps_same (tables_of a) (tables_of a) refl; decs = refl; outs = refl; states = refl }; rest = refl; work_room = refl; dead_room = refl }
+leaves_none a = record { tables = record { keeps = keeps_same (tables_of a) (tables_of a) refl; decs = refl; outs = refl; states = refl }; rest = refl; work_room = refl; dead_room = refl; dead_listed = refl }
 
 pub tables_both : (t u v : Tables) → TablesStay t u → TablesStay u v → TablesStay t v
 tables_both t u v x y = record {
@@ -44,13 +46,19 @@ tables_both t u v x y = record {
   states = y.states ∙ x.states;
 }
 
-pub leaves_both : (a b c : Space) → Leaves a b → Leaves b c → Leaves a c
-leaves_both a b c x y = record {
-  tables = tables_both (tables_of a) (tables_of b) (tables_of c) x.tables y.tables;
+-- what one step leaves and the next does
+pub leaves_then : (Stay : Tables → Tables → Type 0) (a b c : Space) → (Stay (tables_of a) (tables_of b) → Stay (tables_of b) (tables_of c) → Stay (tables_of a) (tables_of c))
+    → LeavesBy Stay a b → LeavesBy Stay b c → LeavesBy Stay a c
+leaves_then Stay a b c both x y = record {
+  tables = both x.tables y.tables;
   rest = y.rest ∙ ap {A = Space} (λ s. with_lists s c.words c.work c.report.dead) x.rest;
   work_room = y.work_room ∙ x.work_room;
   dead_room = y.dead_room ∙ x.dead_room;
+  dead_listed = y.dead_listed ∙ x.dead_listed;
 }
+
+pub leaves_both : (a b c : Space) → Leaves a b → Leaves b c → Leaves a c
+leaves_both a b c x y = leaves_then TablesStay a b c (tables_both (tables_of a) (tables_of b) (tables_of c)) x y
 
 pub keeps_none : (a : Space) → Keeps a a
 keeps_none a = record { leaves = leaves_none a; cursors = refl }
@@ -79,13 +87,13 @@ without_leaves t p shape = record { keeps = record { heap = refl; reuse = refl; 
 
 pub reclaimed_keeps : (a b : Space) (p : Place) (n : Name) (shape : Shape) → Reclaims a b p n shape → Keeps a b
 reclaimed_keeps a b p n shape re = record {
-  leaves = leaves_by a b (pushed a.work p) (pushed a.report.dead n) re.rest refl refl (subst (TablesStay (tables_of a)) (sym re.tables) (without_leaves (tables_of a) p.0 shape));
+  leaves = leaves_by a b (pushed a.work p) (with_name a.report.dead n) re.rest refl refl (subst (TablesStay (tables_of a)) (sym re.tables) (without_leaves (tables_of a) p.0 shape));
   cursors = ap (λ t. t.cursors) re.tables;
 }
 
 pub buried_keeps : (a b : Space) (p : Place) (n : Name) (shape : Shape) → Buries a b p n shape → Keeps a b
 buried_keeps a b p n shape buries = record {
-  leaves = leaves_by a b a.work (pushed a.report.dead n) buries.rest refl refl (subst (TablesStay (tables_of a)) (sym buries.tables) (without_leaves (tables_of a) p.0 shape));
+  leaves = leaves_by a b a.work (with_name a.report.dead n) buries.rest refl refl (subst (TablesStay (tables_of a)) (sym buries.tables) (without_leaves (tables_of a) p.0 shape));
   cursors = ap (λ t. t.cursors) buries.tables;
 }
 
@@ -127,9 +135,9 @@ pub was_one : (a : Space) (p : Place) (st : CascadeStage) (r : Name) (rest : Nam
 was_one a p st r rest w zero = ap (λ z. (tables_of a).counts (granule_of z)) (sym w.stands) ∙ zero_means ((tables_of a).counts (granule_of p.0)) zero
 
 -- the last count went
-pub fell : (a b e : Space) (p : Place) (st : CascadeStage) (r : Name) (rest : Name → ℕ) → (w : Waiting a p.0 st r rest) → Zero ≡ lowered_of ((tables_of a).counts (granule_of p.0))
-    → Turns a b (with_lowered (tables_of a) (granule_of p.0)) → Reclaims b e p r (shape_there a p st r rest w) → Reaches e st rest
-fell a b e p st r rest w zero turns re =
+pub fell_at : (a b e : Space) (p : Place) (st : CascadeStage) (r : Name) (rest : Name → ℕ) → (w : Waiting a p.0 st r rest) → Zero ≡ lowered_of ((tables_of a).counts (granule_of p.0))
+    → Turns a b (with_lowered (tables_of a) (granule_of p.0)) → Reclaims b e p r (shape_there a p st r rest w) → IsAt e (later st (r ∷ st.gone) (st.work ++ r ∷ []) rest)
+fell_at a b e p st r rest w zero turns re =
     let t : Tables = tables_of a in
     let l : e.limits ≡ a.limits = ap (λ s. s.limits) re.rest ∙ same_limits a b _ turns in
     let at = at_place a p st r rest w in
@@ -140,31 +148,33 @@ fell a b e p st r rest w zero turns re =
     let lower : ℕ → ℕ → Tables = λ n z. without_object (record t { counts = changed t.counts (granule_of n) z }) n (shape_of o.0) in
     let tables : tables_of e ≡ bare t st.at r o.0 = re.tables ∙ ap cut turns.tables ∙ ap (lower p.0) gone ∙ ap (λ z. lower z 0) w.stands in
     let work : e.work ≡ pushed a.work (place_of st.at r) = ap (λ s. s.work) re.rest ∙ ap (λ s. pushed s.work p) turns.rest ∙ ap (pushed a.work) at.2 in
-    let dead : e.report.dead ≡ pushed a.report.dead r = ap (λ s. s.report.dead) re.rest ∙ ap (λ s. pushed s.report.dead r) turns.rest in (
-      r ∷ st.gone,
-      st.work ++ r ∷ [],
-      record {
-        space = reclaimed_space b e p r (shape_there a p st r rest w) re (still_space a b _ w.stage.space turns refl);
-        cascade = same_parts a.limits e.limits _ (tables_of e) _ e.work _ e.report.dead (later st (r ∷ st.gone) (st.work ++ r ∷ []) rest) l tables work dead
-            (falls a.limits t a.work a.report.dead st r rest o.0 w.stage.cascade w.member w.taken (last_unstuck a.limits t a.work a.report.dead st r w.stage.cascade w.member one) one o.1);
-      },
-    )
+    let dead : e.report.dead ≡ with_name a.report.dead r = ap (λ s. s.report.dead) re.rest ∙ ap (λ s. with_name s.report.dead r) turns.rest in
+    record {
+      space = reclaimed_space b e p r (shape_there a p st r rest w) re (still_space a b _ w.stage.space turns refl);
+      cascade = same_parts a.limits e.limits _ (tables_of e) _ e.work _ e.report.dead (later st (r ∷ st.gone) (st.work ++ r ∷ []) rest) l tables work dead
+          (falls a.limits t a.work a.report.dead st r rest o.0 w.stage.cascade w.member w.taken (last_unstuck a.limits t a.work a.report.dead st r w.stage.cascade w.member one) one o.1);
+    }
+
+pub fell : (a b e : Space) (p : Place) (st : CascadeStage) (r : Name) (rest : Name → ℕ) → (w : Waiting a p.0 st r rest) → Zero ≡ lowered_of ((tables_of a).counts (granule_of p.0))
+    → Turns a b (with_lowered (tables_of a) (granule_of p.0)) → Reclaims b e p r (shape_there a p st r rest w) → Reaches e st rest
+fell a b e p st r rest w zero turns re = (r ∷ st.gone, st.work ++ r ∷ [], fell_at a b e p st r rest w zero turns re)
 
 -- some count is left
-pub went_on : (a b : Space) (p : Place) (st : CascadeStage) (r : Name) (rest : Name → ℕ) → Waiting a p.0 st r rest → (lowered_of ((tables_of a).counts (granule_of p.0)) ≡ Zero → ⊥)
-    → Turns a b (with_lowered (tables_of a) (granule_of p.0)) → Reaches b st rest
-went_on a b p st r rest w more turns =
+pub went_on_at : (a b : Space) (p : Place) (st : CascadeStage) (r : Name) (rest : Name → ℕ) → Waiting a p.0 st r rest → (lowered_of ((tables_of a).counts (granule_of p.0)) ≡ Zero → ⊥)
+    → Turns a b (with_lowered (tables_of a) (granule_of p.0)) → IsAt b (later st st.gone st.work rest)
+went_on_at a b p st r rest w more turns =
     let t : Tables = tables_of a in
     let l = same_limits a b _ turns in
-    let tables : tables_of b ≡ with_lowered t (granule_of (st.at r)) = turns.tables ∙ ap (λ z. with_lowered t (granule_of z)) w.stands in (
-      st.gone,
-      st.work,
-      record {
-        space = still_space a b _ w.stage.space turns refl;
-        cascade = same_parts a.limits b.limits _ (tables_of b) _ b.work _ b.report.dead (later st st.gone st.work rest) l tables (ap (λ s. s.work) turns.rest) (ap (λ s. s.report.dead) turns.rest)
-            (goes_on a.limits t a.work a.report.dead st r rest w.stage.cascade w.member w.taken (λ z. more (ap (λ q. lowered_of (t.counts (granule_of q))) w.stands ∙ z)));
-      },
-    )
+    let tables : tables_of b ≡ with_lowered t (granule_of (st.at r)) = turns.tables ∙ ap (λ z. with_lowered t (granule_of z)) w.stands in
+    record {
+      space = still_space a b _ w.stage.space turns refl;
+      cascade = same_parts a.limits b.limits _ (tables_of b) _ b.work _ b.report.dead (later st st.gone st.work rest) l tables (ap (λ s. s.work) turns.rest) (ap (λ s. s.report.dead) turns.rest)
+          (goes_on a.limits t a.work a.report.dead st r rest w.stage.cascade w.member w.taken (λ z. more (ap (λ q. lowered_of (t.counts (granule_of q))) w.stands ∙ z)));
+    }
+
+pub went_on : (a b : Space) (p : Place) (st : CascadeStage) (r : Name) (rest : Name → ℕ) → Waiting a p.0 st r rest → (lowered_of ((tables_of a).counts (granule_of p.0)) ≡ Zero → ⊥)
+    → Turns a b (with_lowered (tables_of a) (granule_of p.0)) → Reaches b st rest
+went_on a b p st r rest w more turns = (st.gone, st.work, went_on_at a b p st r rest w more turns)
 
 -- the start bit that goes is one of those that were counted
 fewer_starts : (a : Space) (p : Place) (st : CascadeStage) (r : Name) (rest : Name → ℕ) → Waiting a p.0 st r rest → Zero ≡ lowered_of ((tables_of a).counts (granule_of p.0))

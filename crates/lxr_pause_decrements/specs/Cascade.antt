@@ -8,6 +8,7 @@ use Rattle.lxr_layout.specs.declared.TheConstants.{DECREMENT_COUNT, DECREMENT_CU
 use Rattle.lxr_layout.specs.Objects.{FitsShape, header_word}
 use Rattle.lxr_layout.specs.Places.{first_word}
 use Rattle.lxr_base.specs.Roomy.{Roomy, pushed}
+use Rattle.lxr_graph.specs.Listing.{NameList, with_name}
 use Rattle.lxr_graph.specs.Names.{has, same_name, without}
 use Rattle.lxr_graph.specs.State.{Object, object_at, refs_of, shape_of}
 use Rattle.lxr_image.specs.declared.space.Space.{Space}
@@ -106,7 +107,7 @@ HandledGray (Some trace) t m at gone =
 
 -- Some objects are reclaimed: what is left has its bits and marks, what is gone is reported, each once, and there is room to
 -- report what may still go. Each that is gone took its start bit with it.
-pub record Remains (l : Limits) (t : Tables) (d : Roomy Name) (st : CascadeStage) : Type 0 where
+pub record Remains (l : Limits) (t : Tables) (d : NameList) (st : CascadeStage) : Type 0 where
   pub ground : Ground t.heap l.blocks st.moment st.at
   pub stuck : (n : Name) → IsTrue (has st.moment.unreclaimed n) → IsTrue (has st.moment.stuck n) → count_at t st.at n ≡ STUCK
   pub below : (n : Name) → IsTrue (has st.moment.unreclaimed n) → has st.moment.stuck n ≡ false → count_at t st.at n < STUCK
@@ -124,7 +125,7 @@ pub record Remains (l : Limits) (t : Tables) (d : Roomy Name) (st : CascadeStage
 -- Some of what decrementers have handled is reclaimed, and its places lie in the worklist, oldest first. A count is the references
 -- from what is left and isn't done, and what waits in the list of decrements; what is gone or done is dead, and has no count. What is
 -- unstuck was referred to at the last pause or stands in that list, drawn or not.
-pub record Handling (l : Limits) (t : Tables) (w : Roomy Place) (d : Roomy Name) (st : CascadeStage) : Type 0 where
+pub record Handling (l : Limits) (t : Tables) (w : Roomy Place) (d : NameList) (st : CascadeStage) : Type 0 where
   pub remains : Remains l t d st
   pub exact : (n : Name) → IsTrue (has st.moment.unreclaimed n) → has st.moment.stuck n ≡ false
       → count_at t st.at n ≡ references st.moment.last (undone t st.at (kept st)) n + waiting_at t (st.at n)
@@ -142,7 +143,7 @@ pub record Handling (l : Limits) (t : Tables) (w : Roomy Place) (d : Roomy Name)
 
 -- Some counts are lowered, and no done bit is set any more: what is left has a count of its references from what is left and of
 -- what waits, and what has none is gone, unless it is still to be looked at. There is room in the worklist for what may still go.
-pub record Cascade (l : Limits) (t : Tables) (w : Roomy Place) (d : Roomy Name) (st : CascadeStage) : Type 0 where
+pub record Cascade (l : Limits) (t : Tables) (w : Roomy Place) (d : NameList) (st : CascadeStage) : Type 0 where
   pub remains : Remains l t d st
   pub lowered : IsLowered st.moment.last st.moment.unreclaimed st.moment.stuck st.gone (count_at t st.at) (waits t st)
   pub seen : (n : Name) → IsTrue (has st.moment.unreclaimed n) → has st.moment.stuck n ≡ false → st.unseen n ≡ 0
@@ -201,18 +202,22 @@ pub record IsHeader (t : Tables) (place : ℕ) (n : Name) (shape : Shape) : Type
   pub header : t.heap (first_word place) ≡ header_word n shape
 
 -- the space with other words, another worklist and other names of the dead in its report
-abbrev pub with_lists : Space → List ℕ → Roomy Place → Roomy Name → Space
+abbrev pub with_lists : Space → List ℕ → Roomy Place → NameList → Space
 with_lists s words work dead = record s { words = words; work = work; report = record s.report { dead = dead } }
 
 -- the object at a place begins no more, and is reported
 pub record Buries (before after : Space) (p : Place) (n : Name) (shape : Shape) : Type 0 where
   pub tables : tables_of after ≡ without_object (tables_of before) p.0 shape
-  pub rest : after ≡ with_lists before after.words before.work (pushed before.report.dead n)
+  pub rest : after ≡ with_lists before after.words before.work (with_name before.report.dead n)
 
 -- so it is, and it waits in the worklist
 pub record Reclaims (before after : Space) (p : Place) (n : Name) (shape : Shape) : Type 0 where
   pub tables : tables_of after ≡ without_object (tables_of before) p.0 shape
-  pub rest : after ≡ with_lists before after.words (pushed before.work p) (pushed before.report.dead n)
+  pub rest : after ≡ with_lists before after.words (pushed before.work p) (with_name before.report.dead n)
+
+-- the tables with so many entries in the list of decrements
+abbrev pub with_length : Tables → ℕ → Tables
+with_length t n = record t { cursors = changed t.cursors DECREMENT_COUNT n }
 
 -- the tables that decrements never write, and the cursors but for those of their list
 pub record TablesStay (t u : Tables) : Type 0 where
@@ -221,12 +226,17 @@ pub record TablesStay (t u : Tables) : Type 0 where
   pub outs : u.outs ≡ t.outs
   pub states : u.states ≡ t.states
 
--- what the decrements leave
-pub record Leaves (before after : Space) : Type 0 where
-  pub tables : TablesStay (tables_of before) (tables_of after)
+-- what is left as it was where tables stay so: all but words, the worklist and the dead of the report
+pub record LeavesBy (Stay : Tables → Tables → Type 0) (before after : Space) : Type 0 where
+  pub tables : Stay (tables_of before) (tables_of after)
   pub rest : after ≡ with_lists before after.words after.work after.report.dead
   pub work_room : after.work.room ≡ before.work.room
   pub dead_room : after.report.dead.room ≡ before.report.dead.room
+  pub dead_listed : after.report.dead.listed ≡ before.report.dead.listed
+
+-- what the decrements leave
+abbrev pub Leaves : Space → Space → Type 0
+Leaves before after = LeavesBy TablesStay before after
 
 -- what one lowering leaves
 pub record Keeps (before after : Space) : Type 0 where

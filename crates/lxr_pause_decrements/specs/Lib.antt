@@ -4,3 +4,5 @@ pub mod Steps
 pub mod Finishing
 pub mod Opened
 pub mod Handled
+pub mod Slices
+pub mod SliceSteps

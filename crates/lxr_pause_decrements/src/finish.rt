@@ -9,7 +9,7 @@ ghost use Rattle.lxr_image.specs.Reads.{granule_of, is_tracing};
 ghost use Rattle.lxr_image.specs.Spaces.{IsSpace, Turns, tables_of};
 ghost use Rattle.lxr_model.specs.Moments.{Moment};
 ghost use Rattle.lxr_pause_decrements.specs.Finishing.{CanFinish, Finishes};
-ghost use Rattle.lxr_pause_decrements.specs.Cascade.{IsHeader, Keeps, Leaves, grayed_if, to_do};
+ghost use Rattle.lxr_pause_decrements.specs.Cascade.{IsHeader, Keeps, Leaves, grayed_if, to_do, with_length};
 ghost use Rattle.lxr_pause_decrements.specs.Steps.{Empties, EmptiesList, IsMidway, Lowers, LowersAll, LowersField, MayEmpty, MayLower, MayLowerAll, MayLowerField, MayRelease, Releases, TakesLast};
 
 use crate::dropped::reclaim_all_dropped;
@@ -104,12 +104,14 @@ pub fn drain(space: &mut Space, floor: usize)
 }
 
 /// Takes the last of the waiting decrements, of which there is one.
-fn take_decrement(space: &mut Space) -> Place
+pub(crate) fn take_decrement(space: &mut Space) -> Place
     requires waiting { (tables_of space.old).cursors DECREMENT_CURSOR < (tables_of space.old).cursors DECREMENT_COUNT }
     requires stage { IsMidway space.old }
     ensures taken { TakesLast space.old space.new result.0 }
     ensures drawn { (tables_of space.new).cursors DECREMENT_CURSOR ≡ (tables_of space.old).cursors DECREMENT_CURSOR }
     ensures fewer { (tables_of space.new).cursors DECREMENT_COUNT + 1 ≡ (tables_of space.old).cursors DECREMENT_COUNT }
+    ensures place { result.0 ≡ (tables_of space.old).decs ((tables_of space.new).cursors DECREMENT_COUNT) }
+    ensures turns { Turns space.old space.new (with_length (tables_of space.old) ((tables_of space.new).cursors DECREMENT_COUNT)) }
     ensures leaves { Leaves space.old space.new }
 {
     let last = space.cursor(DECREMENT_COUNT) - 1;

@@ -11,7 +11,9 @@ mod finish;
 mod handled;
 mod laws;
 mod reclaiming;
+mod slices;
 
 pub use finish::{drain, finish_decrements, lower_place, reference_slots};
 pub use laws::opened_can_finish;
 pub use reclaiming::{bury, reclaim};
+pub use slices::{Slice, finish_some};

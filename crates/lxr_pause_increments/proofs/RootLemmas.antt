@@ -11,13 +11,14 @@ use Rattle.std.proofs.lemmas.Option.{slice_get-get_or, slice_get_within}
 use Rattle.lxr_layout.specs.declared.Name.{Name}
 use Rattle.lxr_layout.specs.declared.Place.{Place}
 use Rattle.lxr_layout.specs.declared.LogEntry.{LogEntry}
-use Rattle.lxr_layout.specs.Registers.{AreNil, nil}
+use Rattle.lxr_layout.specs.Registers.{held_at, nil}
+use Rattle.lxr_image.specs.Registers.{AreSame}
 use Rattle.lxr_graph.specs.Names.{has, same_held}
 use Rattle.lxr_graph.proofs.NameSets.{has-union}
 use Rattle.lxr_graph.proofs.RowLemmas.{slice_get-mapped}
 use Rattle.lxr_image.specs.declared.space.Space.{Space}
 use Rattle.lxr_image.specs.Image.{ArePlacesOf, place_word}
-use Rattle.lxr_image.proofs.PassedLemmas.{nil_there, passed_over}
+use Rattle.lxr_image.proofs.PassedLemmas.{passed_over}
 use Rattle.lxr_model.specs.Reachable as reach
 use Rattle.lxr_model.specs.Moments.{Field, Moment}
 use Rattle.lxr_model.specs.Reports.{field_holds, newly_held}
@@ -342,14 +343,16 @@ register_same s m at st i p q v b is e roots = record {
       known = λ o k. has-union st.promoted m.unreclaimed o ∙ or_right (has st.promoted o) (has m.unreclaimed o) (is.was o (sym (is.same e) ∙ k));
     }
 
--- registers that are nil, and were so at the last pause, hold what they held
-pub registers_passed : (s : Space) (m : Moment) (at : Name → ℕ) (st : IncrementStage) (from to : ℕ) → from ≤ to → to ≤ length s.registers.items → AreNil s.registers.items from to → AreNil s.deferred.items from to
+-- registers that hold what they held at the last pause are passed over
+pub registers_passed : (s : Space) (m : Moment) (at : Name → ℕ) (st : IncrementStage) (from to : ℕ) → from ≤ to → to ≤ length s.registers.items → AreSame s.registers.items s.deferred.items from to
     → HasRaisedRoots s m at st from → HasRaisedRoots s m at st to
-registers_passed s m at st from to low end now last = passed_over (HasRaisedRoots s m at st) from to low (λ k above below roots.
+registers_passed s m at st from to low end same = passed_over (HasRaisedRoots s m at st) from to low (λ k above below roots.
     let incrementing = roots.settled.accounted.incrementing in
     let many = incrementing.as_many in
-    let x = register_at s m at st incrementing k nil nil (nil_there s.registers.items from to k now end above below) (nil_there s.deferred.items from to k last (omega (arith, end, many)) above below) in
-    register_same s m at st k nil nil x.0 x.1 x.2 refl roots)
+    let held : Place = held_at s.registers.items k in
+    let there : slice_get s.deferred.items k ≡ Some held = slice_get-get_or s.deferred.items k nil (omega (arith, end, many, below)) ∙ ap Some (sym (same k above below)) in
+    let x = register_at s m at st incrementing k held held (slice_get-get_or s.registers.items k nil (omega (arith, end, below))) there in
+    register_same s m at st k held held x.0 x.1 x.2 refl roots)
 
 -- it holds something else, which was raised
 pub register_raised : (s now : Space) (m : Moment) (at : Name → ℕ) (st : IncrementStage) (i : ℕ) (p q : Place) (v b : Option Name) (w : ℕ) → IsRegisterAt s m at st i p q v b → p.0 ≢ q.0 → HasRaisedRoots s m at st i

@@ -5,6 +5,7 @@ use Rattle.lxr_layout.specs.declared.Place.{Place}
 use Rattle.lxr_layout.specs.declared.Shape.{Shape}
 use Rattle.lxr_layout.specs.declared.TheConstants.{STUCK}
 use Rattle.lxr_base.specs.Roomy.{pushed}
+use Rattle.lxr_graph.specs.Listing.{with_name}
 use Rattle.lxr_tables.specs.Counts.{raised_count}
 use Rattle.lxr_image.specs.declared.space.Space.{Space}
 use Rattle.lxr_image.specs.Tables.{Tables, changed}
@@ -40,5 +41,5 @@ pub record TakesIn (before after : Space) (p q : Place) (n : Name) (shape : Shap
   pub promotes : Promotes before promoted p q n shape
   pub rest : after ≡ record promoted {
     work = pushed promoted.work q;
-    report = record promoted.report { promoted = pushed promoted.report.promoted n };
+    report = record promoted.report { promoted = with_name promoted.report.promoted n };
   }

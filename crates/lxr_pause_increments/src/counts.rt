@@ -2,7 +2,7 @@
 ghost use Rattle.std.specs.Prelude.{◌≡◌, ◌<◌, IsTrue, length};
 ghost use Rattle.lxr_layout.specs.declared.Name.{Name as NameOf};
 ghost use Rattle.lxr_layout.specs.declared.Shape.{Shape as ShapeOf};
-ghost use Rattle.lxr_base.specs.Roomy.{pushed};
+ghost use Rattle.lxr_graph.specs.Listing.{with_name};
 ghost use Rattle.lxr_image.specs.Reads.{granule_of};
 ghost use Rattle.lxr_image.specs.Spaces.{tables_of};
 ghost use Rattle.lxr_pause_promote.specs.Copying.{HasKeptAt, HasObjectAt, StandsAt, StandsKept};
@@ -80,7 +80,7 @@ fn report_stuck(space: &mut Space, place: Place)
     requires stands { HasObjectAt space.old place }
     requires room { length space.old.report.stuck.items < space.old.report.stuck.room }
     ensures { (n : NameOf) (shape : ShapeOf) → StandsAt space.old place n shape
-        → space.new ≡ record space.old { report = record space.old.report { stuck = pushed space.old.report.stuck n } } }
+        → space.new ≡ record space.old { report = record space.old.report { stuck = with_name space.old.report.stuck n } } }
 {
     let (name, _) = object(space, place);
     space.report.stuck.push(name);

@@ -169,10 +169,10 @@ fn raise_registers(space: &mut Space, shortage: &mut Shortage)
     ensures leaves { RaisingLeaves space.old space.new }
     ensures short { IsShortage space.new shortage.new }
 {
-    let mut register = space.next_register(0);
+    let mut register = space.registers.next_changed(&space.deferred, 0);
     while register < space.registers.len() {
         raise_register(space, register, shortage);
-        register = space.next_register(register + 1);
+        register = space.registers.next_changed(&space.deferred, register + 1);
     }
 }
 

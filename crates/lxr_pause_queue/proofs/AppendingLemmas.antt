@@ -3,17 +3,17 @@
 use Rattle.std.proofs.Common.{◌≡◌, ◌≢◌, ℕ, suc, ◌+◌, ◌<◌, ◌≤◌, refl, sym, ap, ◌∙◌, inl, inr, arith, true, false, List, ◌∷◌, length, drop, add-one, nat_eq, cond}
 use Rattle.std.specs.Prelude.{Some, slice_get}
 use Rattle.std.proofs.Math.Seq.{drop-cons, drop-length}
-use Rattle.std.proofs.lemmas.Bool.Decides.{eqb_tells}
+use Rattle.std.proofs.lemmas.Bool.Decides.{eqb_tells, nat_tests}
 use Rattle.std.proofs.lemmas.Option.{slice_get-get_or, slice_get_within, get_or_from_slice_get}
 use Rattle.lxr_layout.specs.declared.TheConstants.{DECREMENT_COUNT}
 use Rattle.lxr_layout.specs.declared.LogEntry.{LogEntry}
 use Rattle.lxr_layout.specs.declared.Place.{Place}
-use Rattle.lxr_layout.specs.Registers.{AreNil, held_at, nil}
+use Rattle.lxr_layout.specs.Registers.{held_at, nil}
 use Rattle.lxr_image.specs.declared.space.Space.{Space}
-use Rattle.lxr_image.specs.Registers.{holding}
+use Rattle.lxr_image.specs.Registers.{AreSame, holding}
 use Rattle.lxr_image.specs.Tables.{Tables}
 use Rattle.lxr_image.specs.Spaces.{IsSpace, Turns, tables_of}
-use Rattle.lxr_image.proofs.PassedLemmas.{nil_there, passed_over}
+use Rattle.lxr_image.proofs.PassedLemmas.{passed_over}
 use Rattle.lxr_image.proofs.SpaceLemmas.{still_space}
 use Rattle.lxr_pause_queue.specs.Appending.{dropped, with_entries, with_entry, with_old, with_registers}
 
@@ -51,9 +51,9 @@ dropped_takes was now = elim (nat_eq was.0 now.0) as (λ b. taken (cond b 0 was.
 pub some_taken : (p : ℕ) → p ≢ 0 → taken p ≡ 1
 some_taken p some = elim (eqb_tells p 0) [ inl none ↦ absurd (some none.1) | inr other ↦ ap (λ b. cond b 0 1) other.0 ]
 
--- a register that held nothing drops nothing
-pub nothing_dropped : (now : Place) → dropped nil now ≡ 0
-nothing_dropped now = elim (nat_eq 0 now.0) as (λ b. ◌≡◌ {A = ℕ} (cond b 0 0) 0) [ true ↦ refl | false ↦ refl ]
+-- what a register still holds isn't dropped
+pub same_dropped : (p : Place) → dropped p p ≡ 0
+same_dropped p = ap (λ b. cond b 0 p.0) (let same : nat_eq p.0 p.0 ≡ true = grind (arith, nat_tests) in same)
 
 -- ---- entries
 
@@ -138,26 +138,27 @@ registers_next a b c k p was now so_far was_there now_there is call =
       few = omega (arith, here, one, same, takes, before, cursor);
     }
 
--- registers that held nothing drop nothing
-pub registers_passed : (a b : Space) (from to : ℕ) → length a.registers.items ≡ length a.deferred.items → from ≤ to → to ≤ length a.deferred.items → AreNil a.deferred.items from to → RegistersSoFar a b from → RegistersSoFar a b to
-registers_passed a b from to many low end last = passed_over (RegistersSoFar a b) from to low (λ k above below so_far.
-    let now : Place = held_at a.registers.items k in
-    let was_at = ap {A = Space} (λ s. slice_get s.deferred.items k) so_far.rest ∙ nil_there a.deferred.items from to k last end above below in
+-- registers that hold what they held drop nothing
+pub registers_passed : (a b : Space) (from to : ℕ) → length a.registers.items ≡ length a.deferred.items → from ≤ to → to ≤ length a.deferred.items → AreSame a.deferred.items a.registers.items from to → RegistersSoFar a b from → RegistersSoFar a b to
+registers_passed a b from to many low end same = passed_over (RegistersSoFar a b) from to low (λ k above below so_far.
+    let held : Place = held_at a.registers.items k in
+    let was_at = ap {A = Space} (λ s. slice_get s.deferred.items k) so_far.rest ∙ slice_get-get_or a.deferred.items k nil (omega (arith, end, below)) ∙ ap Some (same k above below) in
     let now_at = ap {A = Space} (λ s. slice_get s.registers.items k) so_far.rest ∙ slice_get-get_or a.registers.items k nil (omega (arith, many, end, below)) in
-    registers_next a b b k 0 nil now so_far was_at now_at (sym (nothing_dropped now)) (record { tables = refl; rest = refl }))
+    registers_next a b b k 0 held held so_far was_at now_at (sym (same_dropped held)) (record { tables = refl; rest = refl }))
 
--- before the first that held something nothing is queued
-pub registers_first : (a : Space) (to : ℕ) → IsSpace a → length a.registers.items ≡ length a.deferred.items → to ≤ length a.deferred.items → AreNil a.deferred.items 0 to → RegistersSoFar a a to
+-- before the first that changed nothing is queued
+pub registers_first : (a : Space) (to : ℕ) → IsSpace a → length a.registers.items ≡ length a.deferred.items → to ≤ length a.deferred.items → AreSame a.deferred.items a.registers.items 0 to → RegistersSoFar a a to
 registers_first a to space many end last = registers_passed a a 0 to many (omega arith) end last (registers_begin a space)
 
 -- and from one to the next that did, what that one dropped
 pub registers_later : (a b c : Space) (k p to : ℕ) (was now : Place) → length a.registers.items ≡ length a.deferred.items → RegistersSoFar a b k → slice_get b.deferred.items k ≡ Some was → slice_get b.registers.items k ≡ Some now
-    → p ≡ dropped was now → Turns b c (with_old (tables_of b) p) → k + 1 ≤ to → to ≤ length c.deferred.items → AreNil c.deferred.items (k + 1) to → RegistersSoFar a c to
-registers_later a b c k p to was now many so_far was_there now_there is call low end last =
+    → p ≡ dropped was now → Turns b c (with_old (tables_of b) p) → k + 1 ≤ to → to ≤ length c.deferred.items → AreSame c.deferred.items c.registers.items (k + 1) to → RegistersSoFar a c to
+registers_later a b c k p to was now many so_far was_there now_there is call low end held =
     let after = registers_next a b c k p was now so_far was_there now_there is call in
     let same : c.deferred.items ≡ a.deferred.items = ap {A = Space} (λ s. s.deferred.items) after.rest in
     let length_same = ap length same in
-    registers_passed a c (k + 1) to many low (omega (arith, end, length_same)) (λ j above below. ap (λ xs. held_at xs j) (sym same) ∙ last j above below) after
+    let now_same : c.registers.items ≡ a.registers.items = ap {A = Space} (λ s. s.registers.items) after.rest in
+    registers_passed a c (k + 1) to many low (omega (arith, end, length_same)) (λ j above below. ap (λ xs. held_at xs j) (sym same) ∙ held j above below ∙ ap (λ xs. held_at xs j) now_same) after
 
 pub registers_end : (a b : Space) (k : ℕ) → RegistersSoFar a b k → k ≡ length a.deferred.items → Turns a b (with_registers (tables_of a) a.deferred.items a.registers.items)
 registers_end a b k so_far all = record {

@@ -70,11 +70,11 @@ fn queue_registers(space: &mut Space)
     requires room { (tables_of space.old).cursors DECREMENT_COUNT + holding space.old.deferred.items ≤ space.old.limits.threads * (space.old.limits.log + space.old.limits.registers) }
     ensures { Turns space.old space.new (with_registers (tables_of space.old) space.old.deferred.items space.old.registers.items) }
 {
-    let mut register = space.deferred.next_in_use(0);
+    let mut register = space.deferred.next_changed(&space.registers, 0);
     while register < space.deferred.len() {
         let old = dropped_place(space.deferred.at(register), space.registers.at(register));
         queue_old(space, old);
-        register = space.deferred.next_in_use(register + 1);
+        register = space.deferred.next_changed(&space.registers, register + 1);
     }
 }
 

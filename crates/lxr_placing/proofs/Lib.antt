@@ -12,3 +12,4 @@ pub mod OpenedListLemmas
 pub mod OpenedExactLemmas
 pub mod TurnLemmas
 pub mod WholeLemmas
+pub mod TrimmingLemmas

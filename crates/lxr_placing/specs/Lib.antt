@@ -1,3 +1,4 @@
 pub mod Opening
 pub mod Placing
 pub mod Listing
+pub mod Trimming

@@ -7,6 +7,8 @@
 
 mod listing;
 mod placing;
+mod trimming;
 
 pub use listing::{ToList, list_for_epoch, list_next, opened_is_listed};
 pub use placing::{opened_is_quiescent, serve};
+pub use trimming::zero_next_free;

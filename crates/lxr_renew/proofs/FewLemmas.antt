@@ -42,12 +42,16 @@ few_begin at end (n ∷ ns) once below apart =
     (or_left (nat_eq (granule_of (at n)) (granule_of (at n))) (begins at ns (granule_of (at n))) (same_number (granule_of (at n)) (granule_of (at n)) refl)) in
     omega (arith, rest, more)
 
--- so there are no more unreclaimed names than granules
-pub unreclaimed_few : (s : Space) (m : Moment) (at : Name → ℕ) → HoldsMoment s m at → length m.unreclaimed ≤ GRANULES_IN_BLOCK * s.limits.blocks
-unreclaimed_few s m at is =
+-- so of what stands in the heap there are no more names than granules
+pub members_few : (s : Space) (m : Moment) (at : Name → ℕ) → HoldsMoment s m at → (ns : List Name) → IsDistinct ns → ((n : Name) → IsTrue (has ns n) → IsTrue (has (members m) n)) → length ns ≤ GRANULES_IN_BLOCK * s.limits.blocks
+members_few s m at is ns once among =
     let image = is.image.image in
-    let counted = few_begin at (GRANULES_IN_BLOCK * s.limits.blocks) m.unreclaimed (in_order_distinct m.unreclaimed is.follows.unreclaimed)
-    (λ n h. let a = image.stands n (in_first m.unreclaimed m.made n h) in let within = a.2.whole.in_heap in omega (arith, within))
-    (λ p q in_p in_q other same. granules_differ (tables_of s) s.limits.blocks at m.state.graph (members m) image p q (in_first m.unreclaimed m.made p in_p) (in_first m.unreclaimed m.made q in_q) other same) in
-    let most = passing_few (begins at m.unreclaimed) (GRANULES_IN_BLOCK * s.limits.blocks) in
+    let counted = few_begin at (GRANULES_IN_BLOCK * s.limits.blocks) ns once
+    (λ n h. let a = image.stands n (among n h) in let within = a.2.whole.in_heap in omega (arith, within))
+    (λ p q in_p in_q other same. granules_differ (tables_of s) s.limits.blocks at m.state.graph (members m) image p q (among p in_p) (among q in_q) other same) in
+    let most = passing_few (begins at ns) (GRANULES_IN_BLOCK * s.limits.blocks) in
     omega (arith, counted, most)
+
+-- and no more unreclaimed ones
+pub unreclaimed_few : (s : Space) (m : Moment) (at : Name → ℕ) → HoldsMoment s m at → length m.unreclaimed ≤ GRANULES_IN_BLOCK * s.limits.blocks
+unreclaimed_few s m at is = members_few s m at is m.unreclaimed (in_order_distinct m.unreclaimed is.follows.unreclaimed) (in_first m.unreclaimed m.made)

@@ -2,7 +2,7 @@
 ghost use Rattle.std.specs.Prelude.{◌≡◌, ℕ, ◌+◌, Bool, IfErr, IsTrue, List, OnOk, false};
 ghost use Rattle.lxr_core.specs.declared.actors.AnyActor.{AnyActor as Actor};
 ghost use Rattle.lxr_graph.specs.declared.report.Kind.{Kind as KindOf};
-ghost use Rattle.lxr_graph.specs.History.{HasToldCounts, PauseReport, report_of};
+ghost use Rattle.lxr_graph.specs.History.{HasToldCounts, HasToldNames, PauseReport, report_of};
 ghost use Rattle.lxr_model.specs.Reports.{is_draining};
 ghost use Rattle.lxr_rounds.specs.Observing.{IsNextReport};
 
@@ -17,6 +17,9 @@ pub trait Observer<Output> {
 
     /// Whether it wants the counts of a pause of this kind listed in the report: of a plain one it wants none, and what it wants stays.
     ghost wants: { Self → KindOf → Bool };
+
+    /// Whether it reads the names of reports.
+    ghost reads_names: { Self → Bool };
 
     /// It has room for the next report where so many pauses were made.
     ghost has_room: { Self → ℕ → Type 0 };
@@ -38,6 +41,10 @@ pub trait Observer<Output> {
         ensures wants { result ≡ wants self.now kind }
         ensures drains { IsTrue result → IsTrue (is_draining kind) };
 
+    /// Whether it reads the names of reports: they are listed then.
+    fn reads_names(&self) -> bool
+        ensures { result ≡ reads_names self.now };
+
     /// Called before the `new`s that wait are served or refused.
     fn before_serving(&mut self, actors: &[AnyActor])
         ensures began { began self.old actors.now self.new }
@@ -50,9 +57,10 @@ pub trait Observer<Output> {
         ensures room { (pauses : ℕ) → has_room self.old pauses → has_room self.new pauses }
         ensures wants { (kind : KindOf) → wants self.new kind ≡ wants self.old kind };
 
-    /// Called after each pause, with its report; its counts are listed where they are wanted.
+    /// Called after each pause, with its report; its counts are listed where they are wanted, and its names where it reads them.
     fn after_pause(&mut self, report: &Report, output: &mut Output) -> Result<(), Self::Error>
         requires counts { IsTrue (wants self.old report.now.kind) → HasToldCounts report.now }
+        requires names { IsTrue (reads_names self.old) → HasToldNames report.now }
         requires next { (pauses : ℕ) × IsNextReport pauses (report_of report.now) × has_room self.old pauses }
         ensures told { OnOk result (told self.old output.old (report_of report.now) self.new output.new) }
         ensures room { OnOk result (has_room self.new report.now.number) }
@@ -69,6 +77,8 @@ impl Observer<()> for Nobody {
 
     ghost wants = { λ _ _. false };
 
+    ghost reads_names = { λ _. false };
+
     ghost has_room = { λ _ _. Unit {0} };
 
     ghost began = { λ _ _ _. Unit {0} };
@@ -80,6 +90,10 @@ impl Observer<()> for Nobody {
     ghost failed = { λ _ _ _ _ _. ⊥ };
 
     fn wants_counts(&self, _kind: Kind) -> bool {
+        false
+    }
+
+    fn reads_names(&self) -> bool {
         false
     }
 

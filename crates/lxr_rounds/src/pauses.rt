@@ -8,13 +8,13 @@ ghost use Rattle.lxr_rounds_invariant.specs.LoopInvariant.{FitsCounts};
 ghost use Rattle.lxr_rounds.specs.Pausing.{GoesOnByPause, MakesPause, SomePauseIsDue};
 
 use crate::observing::Observer;
-use crate::telling::tell_where_wanted;
+use crate::telling::{list_where_read, tell_where_wanted};
 use lxr_image::Space;
 use lxr_one_pause::{Ask, Pace, one_pause};
 use lxr_sights::Watch;
 
 /// Makes a pause that is asked for so, at which the watch looks right before and right after it. Then the observer is told of its report,
-/// which lists counts where it wants them, and else none.
+/// which lists counts where it wants them, and else none, and whose names are listed where it reads them.
 pub(crate) fn pause<W: Watch, S, O: Observer<S>>(
     space: &mut Space,
     ask: Ask,
@@ -42,5 +42,6 @@ pub(crate) fn pause<W: Watch, S, O: Observer<S>>(
     one_pause(space, ask, pace);
     watch.look(space);
     tell_where_wanted(space, observer);
+    list_where_read(space, observer);
     observer.after_pause(&space.report, output)
 }

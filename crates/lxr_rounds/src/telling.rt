@@ -1,4 +1,4 @@
-//! The counts of a pause, told where an observer wants them.
+//! The counts and the names of a pause, told where an observer wants them.
 ghost use Rattle.std.specs.Prelude.{◌≡◌, ℕ, IsTrue, false};
 ghost use Rattle.lxr_layout.specs.declared.Name.{Name};
 ghost use Rattle.lxr_model.specs.Moments.{Moment};
@@ -6,8 +6,12 @@ ghost use Rattle.lxr_model.specs.Reports.{is_draining};
 ghost use Rattle.lxr_invariant.specs.Quiescent.{HoldsMoment};
 ghost use Rattle.lxr_pause_queue.specs.Counting.{ListsCounts};
 ghost use Rattle.lxr_pause_queue.specs.Entries.{with_told};
+ghost use Rattle.lxr_graph.specs.History.{report_of};
+ghost use Rattle.lxr_graph.specs.Telling.{HasListsInOrder};
+ghost use Rattle.lxr_one_pause.specs.Telling.{with_names_where};
 
 use crate::observing::Observer;
+use lxr_graph::tell_names;
 use lxr_image::Space;
 use lxr_pause_queue::tell_counts;
 
@@ -21,5 +25,15 @@ pub(crate) fn tell_where_wanted<S, O: Observer<S>>(space: &mut Space, observer: 
 {
     if observer.wants_counts(space.report.kind) {
         tell_counts(space);
+    }
+}
+
+/// Lists the names of the pause that was just made, where the observer reads them, and else does nothing. It takes no memory.
+pub(crate) fn list_where_read<S, O: Observer<S>>(space: &mut Space, observer: &O)
+    requires { HasListsInOrder (report_of space.old.report) }
+    ensures { space.new ≡ with_names_where (O.reads_names observer.now) space.old }
+{
+    if observer.reads_names() {
+        tell_names(&mut space.report);
     }
 }

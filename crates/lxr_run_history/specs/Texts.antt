@@ -1,5 +1,5 @@
 -- What a run of threads prints, by its command. `judge` and `large` run none, and nothing is printed of them.
-use Rattle.std.specs.Prelude.{ℕ, Bool, false, not, ◌&&◌, List, [], ◌++◌}
+use Rattle.std.specs.Prelude.{ℕ, Bool, false, true, not, ◌&&◌, List, [], ◌++◌}
 use Rattle.lxr_graph.specs.declared.report.Kind.{Kind}
 use Rattle.lxr_graph.specs.History.{Item, PauseReport}
 use Rattle.lxr_graph.specs.Order.{order_of}
@@ -13,6 +13,15 @@ use Rattle.lxr_words.specs.declared.Command.{Command}
 use Rattle.lxr_words.specs.declared.Command.TheVariants.{Judge, Large, Load, Map, Order, Run}
 use Rattle.lxr_words.specs.declared.Options.{Options}
 use Rattle.lxr_run_history.specs.Sums.{sums_of}
+
+-- the command prints the reports of pauses
+abbrev pub prints_reports : Command → Bool
+prints_reports Run = true
+prints_reports Map = true
+prints_reports Order = true
+prints_reports Judge = false
+prints_reports Large = false
+prints_reports (Load seed) = false
 
 -- the command prints the counts of a pause of this kind: it prints reports, the counts of pauses are asked for, and this one isn't plain
 abbrev pub prints_counts : Command → Bool → Kind → Bool

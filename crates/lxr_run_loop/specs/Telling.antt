@@ -1,5 +1,5 @@
 -- What a run tells of its pauses: what the teller does as it is told of rounds.
-use Rattle.std.specs.Prelude.{◌≡◌, ℕ, ◌<◌, ◌≤◌, ⊤, Option, List, [], ◌∷◌, slice_index}
+use Rattle.std.specs.Prelude.{◌≡◌, ℕ, ◌<◌, ◌≤◌, false, Option, List, [], ◌∷◌, slice_index}
 use Rattle.lxr_graph.specs.declared.Item.TheVariants as item
 use Rattle.lxr_graph.specs.History.{Item, PauseReport}
 use Rattle.lxr_core.specs.declared.actors.AnyActor.{AnyActor}
@@ -7,21 +7,15 @@ use Rattle.lxr_text_stream.specs.Streams.{Appends, AppendsFront, Rose}
 use Rattle.lxr_text_stream.specs.declared.transfer.WriteError.{WriteError}
 use Rattle.lxr_text_stream.specs.declared.transfer.WriteError.TheVariants as error
 use Rattle.lxr_words.specs.declared.Command.{Command}
-use Rattle.lxr_words.specs.declared.Command.TheVariants.{Judge, Large, Load, Map, Order, Run}
 use Rattle.lxr_run_history.specs.Sums.{totals_of, with_report}
-use Rattle.lxr_run_history.specs.Texts.{told_report}
+use Rattle.lxr_run_history.specs.Texts.{prints_reports, told_report}
 use Rattle.lxr_run_loop.specs.declared.teller.Teller.{Teller}
 use Rattle.lxr_run_loop.specs.Orders.{IsOrderOf, Notes, calls_of_first, placed_at}
 use Rattle.lxr_run_loop.specs.Tasks.{HasTold, RunTask}
 
--- these commands print nothing of a pause
+-- the command prints nothing of a pause
 abbrev pub TellsNothing : Command → Type 0
-TellsNothing Run = ⊥
-TellsNothing Map = ⊥
-TellsNothing Order = ⊥
-TellsNothing Judge = ⊤
-TellsNothing Large = ⊤
-TellsNothing (Load seed) = ⊤
+TellsNothing command = prints_reports command ≡ false
 
 -- what is printed of a pause by the options of a teller
 abbrev pub told_by_teller : Teller → PauseReport → List ℕ

@@ -1,8 +1,8 @@
 //! The observer of a run: it sums reports, notes the order of calls and pauses, and prints by the command.
 ghost use Rattle.std.specs.Prelude.{◌≡◌, ℕ, ◌<◌, ◌≤◌, IsOk, IsTrue, OnErr, OnOk, slice_index};
-ghost use Rattle.lxr_graph.specs.History.{HasToldCounts, report_of};
+ghost use Rattle.lxr_graph.specs.History.{HasToldCounts, HasToldNames, report_of};
 ghost use Rattle.lxr_text_stream.specs.Streams.{Appends, AppendsFront, Rose};
-ghost use Rattle.lxr_run_history.specs.Texts.{prints_counts, told_report};
+ghost use Rattle.lxr_run_history.specs.Texts.{prints_counts, prints_reports, told_report};
 ghost use Rattle.lxr_run_loop.specs.Courses.{AreFew};
 ghost use Rattle.lxr_run_loop.specs.Orders.{placed_at};
 ghost use Rattle.lxr_run_loop.specs.Telling.{CountsPlaced, FailsReport, NotesServed, TellsNothing, TellsReport};
@@ -35,6 +35,8 @@ impl<S: Sink> Observer<S> for Teller {
 
     ghost wants = { λ o kind. prints_counts o.options.command o.options.counts kind };
 
+    ghost reads_names = { λ o. prints_reports o.options.command };
+
     ghost has_room = { λ o pauses. AreFew o.totals pauses };
 
     ghost began = { CountsPlaced };
@@ -47,6 +49,10 @@ impl<S: Sink> Observer<S> for Teller {
 
     fn wants_counts(&self, kind: Kind) -> bool {
         prints_counts(&self.options, kind)
+    }
+
+    fn reads_names(&self) -> bool {
+        prints_reports(&self.options)
     }
 
     fn before_serving(&mut self, actors: &[AnyActor]) {
@@ -63,6 +69,16 @@ impl<S: Sink> Observer<S> for Teller {
         self.totals.add(report);
         self.order.note(Item::Pause);
         tell(report, &self.options, output)
+    }
+}
+
+/// Whether the command prints the reports of pauses.
+fn prints_reports(options: &Options) -> bool
+    ensures { result ≡ prints_reports options.now.command }
+{
+    match options.command {
+        Command::Run | Command::Map | Command::Order => true,
+        Command::Judge | Command::Large | Command::Load(_) => false,
     }
 }
 
@@ -101,9 +117,10 @@ fn placed(actors: &[AnyActor]) -> [u32; 255]
     counts
 }
 
-/// Prints what is told of a pause by the command: its report, with counts where the options want them, which were listed then; `load`
-/// tells nothing, and `large` and `judge` run no threads. After an error a prefix of the text is written.
+/// Prints what is told of a pause by the command: its report, whose names were listed, with counts where the options want them, which were
+/// listed then; `load` tells nothing, and `large` and `judge` run no threads. After an error a prefix of the text is written.
 fn tell<O: Sink>(report: &Report, options: &Options, output: &mut O) -> Result<(), WriteError>
+    requires names { IsTrue (prints_reports options.now.command) → HasToldNames report.now }
     requires told { IsTrue (prints_counts options.now.command options.now.counts report.now.kind) → HasToldCounts report.now }
     ensures ok { OnOk result (Appends (O.written output.old) (O.written output.new) (told_report options.now.command options.now.counts (report_of report.now))) }
     ensures err { OnErr result (AppendsFront (O.written output.old) (O.written output.new) (told_report options.now.command options.now.counts (report_of report.now))) }

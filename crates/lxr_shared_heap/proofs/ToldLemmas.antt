@@ -10,14 +10,14 @@ use Rattle.lxr_core.specs.declared.actors.AnyActor.{AnyActor}
 use Rattle.lxr_one_pause.proofs.TellingLemmas.{quiescent_told}
 use Rattle.lxr_sights.specs.Sights.{Sight}
 use Rattle.lxr_rounds_invariant.specs.LoopInvariant.{IsBetweenEpochs, Task}
-use Rattle.lxr_rounds.proofs.TellingLemmas.{come_told}
+use Rattle.lxr_rounds.proofs.TellingLemmas.{come_retold}
 
 pub between_told : (task : Task) (space : Space) (seen : Option (List Sight)) (actors : List AnyActor) (h : List Item) (g : AbstractState) (told : List Count) → IsBetweenEpochs task space seen actors h g
     → IsBetweenEpochs task (with_told space told) seen actors h g
 between_told task space seen actors h g told amid =
     let listed = amid.listed in
     record {
-      come = come_told task space seen h g told amid.come;
+      come = come_retold task space seen h g (with_told space told).report amid.come;
       between = quiescent_told space g told amid.between;
       listed = record {
         no_runs_drawn = listed.no_runs_drawn;

@@ -6,7 +6,6 @@ ghost use Rattle.lxr_layout.specs.Spaces.{AreLimits};
 ghost use Rattle.lxr_sights.specs.Copies.{AreRegistersFor, FitsReportRoom, FitsRoom, HasReportRoomFor, HasRoomFor};
 ghost use Rattle.lxr_sights.specs.Sights.{sight_of};
 
-use lxr_base::Listed;
 use lxr_graph::Report;
 use lxr_image::{HeapWords, RegisterFile, Space};
 use lxr_layout::{GRANULES_IN_BLOCK, Limits, REGISTERS, regions};
@@ -57,17 +56,6 @@ fn copy_words(to: &mut HeapWords, from: &HeapWords)
     }
 }
 
-/// Puts the items of one list in place of those of another, in its room.
-fn copy_list<T: Copy + Drop>(to: &mut Listed<T>, from: &Listed<T>)
-    requires { length from.now.items ≤ to.old.room }
-    ensures { to.new ≡ record to.old { items = from.now.items } }
-{
-    to.clear();
-    for item in from.as_slice() {
-        to.push(*item);
-    }
-}
-
 /// Puts what one report says, and what of its counts was told, in place of what another says, in its room.
 fn copy_report(to: &mut Report, from: &Report)
     requires { HasReportRoomFor to.old from.now }
@@ -76,12 +64,12 @@ fn copy_report(to: &mut Report, from: &Report)
 {
     to.number = from.number;
     to.kind = from.kind;
-    copy_list(&mut to.promoted, &from.promoted);
-    copy_list(&mut to.dead, &from.dead);
-    copy_list(&mut to.stuck, &from.stuck);
-    copy_list(&mut to.swept, &from.swept);
+    to.promoted.copy_from(&from.promoted);
+    to.dead.copy_from(&from.dead);
+    to.stuck.copy_from(&from.stuck);
+    to.swept.copy_from(&from.swept);
     to.counts = from.counts.same();
-    copy_list(&mut to.told, &from.told);
+    to.told.copy_from(from.told.as_slice());
 }
 
 /// Makes a space what another one is, in its room.
@@ -93,8 +81,8 @@ pub(crate) fn copy_space(to: &mut Space, from: &Space)
     copy_words(&mut to.words, &from.words);
     to.registers.copy_from(&from.registers);
     to.deferred.copy_from(&from.deferred);
-    copy_list(&mut to.logged, &from.logged);
-    copy_list(&mut to.work, &from.work);
+    to.logged.copy_from(from.logged.as_slice());
+    to.work.copy_from(from.work.as_slice());
     copy_report(&mut to.report, &from.report);
     to.limits = from.limits;
     to.tally = from.tally;

@@ -1,6 +1,6 @@
 -- The homes' rule is kept by each step, and the passes that are gathered are those of the epoch.
 use Rattle.std.proofs.Common.{◌≡◌, ◌≢◌, ◌⊎◌, inl, inr, ℕ, zero, suc, ◌+◌, ◌<◌, refl, sym, ap, subst, ◌∙◌, arith, All, Option, Some, true, List, [], ◌∷◌, ◌++◌, append_assoc, length, length-append, map, set}
-use Rattle.std.specs.Prelude.{IsSome, None, replicate, slice_get, slice_index, slice_set}
+use Rattle.std.specs.Prelude.{Err, IfErr, IfOk, IsSome, None, Ok, Result, replicate, slice_get, slice_index, slice_set}
 use Rattle.std.proofs.lemmas.List.{append-nil, get_or-set_other, length-replicate, length-set, map-append}
 use Rattle.std.proofs.lemmas.List.Elements.{All-cons, All-nil}
 use mathlib.Core.Logic.{dite}
@@ -429,6 +429,15 @@ ended_more [] p ended over zero a at = let same : p.actor ≡ a = cc in subst (�
 ended_more [] p ended over (suc i) a at = absurd (cc)
 ended_more (q ∷ before) p ended over zero a at = ended zero a at
 ended_more (q ∷ before) p ended over (suc i) a at = ended_more before p (λ j b there. ended (suc j) b there) over i a at
+
+-- what follows from an answer's value follows where it has one, and so of its error
+pub ok_by : {T E : Type 0} {P Q : T → Type 0} (r : Result T E) → ((x : T) → P x → Q x) → IfOk r P → IfOk r Q
+ok_by (Ok x) follows is = follows x is
+ok_by (Err e) follows is = tt
+
+pub err_by : {T E : Type 0} {P Q : E → Type 0} (r : Result T E) → ((e : E) → P e → Q e) → IfErr r P → IfErr r Q
+err_by (Ok x) follows is = tt
+err_by (Err e) follows is = follows e is
 
 -- none is left to gather
 pub gathered_all : (epoch : Housed) (number : ℕ) (handed : List (Option Arrival)) (before : List (Passing AnyActor)) → number ≡ length epoch.opening.actors → AreArrivalsOf epoch handed → IsPauseWanted (actors_in before)

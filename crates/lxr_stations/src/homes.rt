@@ -86,6 +86,11 @@ impl Absence {
     {
         self.number
     }
+
+    /// Lets go of the right: the homes end with their last share, and no pass comes back to them.
+    pub(crate) fn let_go(self) {
+        let Absence { number: _, seat: _ } = self;
+    }
 }
 
 /// That a pass was brought home, and which: its value is the station that came home. Nothing but bringing a pass home makes one. It holds no share of the
@@ -189,14 +194,6 @@ impl Homes {
         drop(self.table.shared.exchange(&mut seat, number, Some(pass)));
         self.table.shared.store::<Brings>(&mut seat, number, THERE);
         Homecoming { seat }
-    }
-
-    /// Lets go of an absence: who alone has the homes ends them, and no pass comes back.
-    pub(crate) fn let_go(self, absence: Absence) -> Homes
-        ensures { result ≡ self }
-    {
-        let Absence { number: _, seat: _ } = absence;
-        self
     }
 }
 

@@ -1,5 +1,5 @@
 //! An epoch that runs, as its owner has it.
-ghost use Rattle.std.specs.Prelude.{◌≡◌, ◌<◌, ◌≤◌, [], IfErr, IfOk, IfSome, None, Some, length, map, option_map, slice_get, slice_set, vec_len, vec_capacity};
+ghost use Rattle.std.specs.Prelude.{◌≡◌, ◌⊎◌, ◌<◌, ◌≤◌, [], IfErr, IfOk, IfSome, None, Some, length, map, option_map, slice_get, slice_set, vec_len, vec_capacity};
 ghost use Rattle.std.specs.Arc.{arc_value};
 ghost use Rattle.lxr_core_invariant.specs.EpochStates.{Beginning};
 ghost use Rattle.lxr_actor.specs.Run.{AlwaysFits, core_of};
@@ -15,6 +15,7 @@ ghost use Rattle.lxr_stations.specs.Homes.{GoesOnFrom, IsAbsent, IsPassAt};
 ghost use Rattle.lxr_stations.specs.Running.{BeganWith, ClosesEach, ClosesLive, IsRunning};
 ghost use Rattle.lxr_stations.specs.declared.station.Arrival.{Arrival};
 ghost use Rattle.lxr_stations.specs.Arriving.{AreArrivalsOf, HasComeHome, IsHandedIn};
+ghost use Rattle.lxr_stations.specs.Wanting.{IsPauseWanted};
 ghost use Rattle.lxr_stations.specs.Stations.{IsNotOut, IsStationOf, Stationed, housed_in, table_of};
 
 use crate::homes::{Absence, Homes};
@@ -113,8 +114,9 @@ impl Live {
             aside,
             mut passes,
         } = self;
-        match gather(shared, 0, &mut passes, arrivals) {
-            Ok(last) => Ok(finish(last, aside, passes)),
+        let mut last = None;
+        match gather(shared, 0, &mut passes, arrivals, &mut last) {
+            Ok(()) => Ok(finish(last.unwrap(), aside, passes)),
             Err((shared, why)) => Err(Unclosed {
                 live: Live {
                     shared,
@@ -197,19 +199,44 @@ fn take_pass(
     }
 }
 
+/// Takes what the threads shared out of its last share, where a pause is wanted by all passes of the epoch.
+#[inline(never)]
+fn unshare(
+    shared: Arc<Shared, Global>,
+    passes: &[Pass],
+    last: &mut Option<Shared>,
+) -> Result<(), (Arc<Shared, Global>, NotClosed)>
+    ensures last { IfOk result (λ _. (last.new ≡ Some (arc_value shared)) × IsPauseWanted (actors_in passes.now)) }
+    ensures kept { IfErr result (λ kept. kept.0 ≡ shared) }
+    ensures why { IfErr result (λ kept. (kept.1 ≡ NotClosed.NotWanted × ¬ IsPauseWanted (actors_in passes.now)) ⊎ (kept.1 ≡ NotClosed.Shared × IsPauseWanted (actors_in passes.now))) }
+{
+    if !is_pause_wanted(passes) {
+        return Err((shared, NotClosed::NotWanted));
+    }
+    match Arc::try_unwrap(shared) {
+        Ok(unshared) => {
+            *last = Some(unshared);
+            Ok(())
+        }
+        Err(shared) => Err((shared, NotClosed::Shared)),
+    }
+}
+
 /// Takes all passes from this number on, behind those that were taken, each from the station in its place or else out of its home, and what the threads
-/// shared out of its last share. Where some pass is in neither, or there are further shares, all that it took are at home.
+/// shared out of its last share, which goes to `last`: it is large, so no call hands it on. Where some pass is in neither, or there are further shares,
+/// all that it took are at home.
 fn gather(
     shared: Arc<Shared, Global>,
     number: usize,
     passes: &mut Vec<Pass>,
     arrivals: &mut [Option<Arrival>],
-) -> Result<Shared, (Arc<Shared, Global>, NotClosed)>
+    last: &mut Option<Shared>,
+) -> Result<(), (Arc<Shared, Global>, NotClosed)>
     requires number { number ≤ length (arc_value shared).opening.actors }
     requires taken { vec_len passes.old ≡ number }
     requires room { length (arc_value shared).opening.actors ≤ vec_capacity passes.old }
     requires handed { AreArrivalsOf (arc_value shared) arrivals.old }
-    ensures all { IfOk result (λ last. (last ≡ arc_value shared) × AreGathered (arc_value shared) number arrivals.old passes.old.items passes.new.items) }
+    ensures all { IfOk result (λ _. (last.new ≡ Some (arc_value shared)) × AreGathered (arc_value shared) number arrivals.old passes.old.items passes.new.items) }
     ensures none { IfErr result (λ kept. (kept.0 ≡ shared) × (passes.new.items ≡ passes.old.items)) }
     ensures why { IfErr result (λ kept. IsUnclosed (length (arc_value shared).opening.actors) number arrivals.old kept.1) }
     ensures unwanted { IfErr result (λ kept. kept.1 ≡ NotClosed.NotWanted → IsUnwanted (length (arc_value shared).opening.actors) number arrivals.old passes.old.items) }
@@ -217,20 +244,17 @@ fn gather(
     ensures room { vec_capacity passes.new ≡ vec_capacity passes.old }
 {
     if number >= shared.count() {
-        if !is_pause_wanted(passes) {
-            return Err((shared, NotClosed::NotWanted));
-        }
-        return match Arc::try_unwrap(shared) {
-            Ok(last) => Ok(last),
-            Err(shared) => Err((shared, NotClosed::Shared)),
-        };
+        return unshare(shared, passes, last);
     }
     let Some((pass, absence)) = take_pass(&shared, number, arrivals) else {
         return Err((shared, NotClosed::Away(number)));
     };
     passes.push_reserved(pass);
-    match gather(shared, number + 1, passes, arrivals) {
-        Ok(last) => Ok(last.let_go(absence)),
+    match gather(shared, number + 1, passes, arrivals, last) {
+        Ok(()) => {
+            absence.let_go();
+            Ok(())
+        }
         Err((shared, why)) => {
             let Some(pass) = passes.pop() else {
                 unreachable!()

@@ -94,13 +94,4 @@ impl Shared {
         let Shared { table, homes: _ } = self;
         table
     }
-
-    /// Lets go of an absence: who alone has what was shared ends the homes, and no pass comes back to them.
-    pub(crate) fn let_go(self, absence: Absence) -> Shared
-        ensures { result ≡ self }
-    {
-        let Shared { table, homes } = self;
-        let homes = homes.let_go(absence);
-        Shared { table, homes }
-    }
 }

@@ -10,7 +10,8 @@ use Rattle.lxr_layout.specs.declared.Place.{Place}
 use Rattle.lxr_layout.specs.declared.Shape.{Shape}
 use Rattle.lxr_layout.specs.Places.{first_word}
 use Rattle.lxr_image.proofs.SpaceLemmas.{space_alike}
-use Rattle.lxr_base.specs.Roomy.{Roomy, pushed}
+use Rattle.lxr_base.specs.Roomy.{Roomy, extended, pushed}
+use Rattle.lxr_graph.specs.Listing.{NameList, with_name, with_names}
 use Rattle.lxr_graph.specs.Names.{has, same_name, without}
 use Rattle.lxr_graph.specs.State.{Object, object_at, refs_of, shape_of}
 use Rattle.lxr_graph.proofs.NameSets.{in_without, not_both, same_names, without_parts}
@@ -39,7 +40,7 @@ use Rattle.lxr_pause_decrements.specs.Wipe.{LosesBits}
 use Rattle.lxr_pause_decrements.proofs.CascadeLemmas.{BeginsAt, IsPlaced, append_group, append_nothing, bare, bits_fall, count_bare, granules_differ, has_reversed, in_heap, marks_fall, placed, places_more, written_other}
 use Rattle.lxr_pause_decrements.proofs.LeftLemmas.{still_left}
 use Rattle.lxr_pause_decrements.proofs.WipeLemmas.{loses_more, loses_none}
-use Rattle.lxr_sweep_unmarked.specs.Clearing.{ClearingStage, IsClearing, TakesOut, UnmarkedAt, cleared_too, clearing, extended, with_swept}
+use Rattle.lxr_sweep_unmarked.specs.Clearing.{ClearingStage, IsClearing, TakesOut, UnmarkedAt, cleared_too, clearing, with_swept}
 use Rattle.lxr_blocks.specs.Clearing.{without_counted}
 use Rattle.lxr_sweep_unmarked.specs.Sweeping.{CanSweep}
 use Rattle.lxr_blocks.specs.States.{state_in, state_of}
@@ -87,6 +88,9 @@ clearing_ground s st is = subst (λ h. Ground h st.was.limits.blocks st.moment s
 extended_none : {A : Type 0} (l : Roomy A) → l ≡ extended l []
 extended_none {A = A} l = ap {A = List A} (λ z. record l { items = z }) (append_nothing l.items)
 
+with_no_names : (l : NameList) → l ≡ with_names l []
+with_no_names l = ap {A = List Name} (λ ns. record l { items = ns }) (append_nothing l.items)
+
 pub first_clearing : (s : Space) (m : Moment) (at : Name → ℕ) → CanSweep s m at → IsClearing s (clearing s m at [] 0)
 first_clearing s m at can =
     let all = without_none m.unreclaimed in
@@ -106,7 +110,7 @@ first_clearing s m at can =
       once = tt;
       references = λ o. let e = ap (λ us. references_from m.last.graph us o) all in omega (arith, e);
       fewer = omega arith;
-      rest = ap (λ w. with_swept s s.words w s.report.swept) (extended_none s.work) ∙ ap (λ r. with_swept s s.words (extended s.work []) r) (extended_none s.report.swept);
+      rest = ap (λ w. with_swept s s.words w s.report.swept) (extended_none s.work) ∙ ap (λ r. with_swept s s.words (extended s.work []) r) (with_no_names s.report.swept);
     }
 
 -- ---- one object
@@ -155,7 +159,7 @@ module _ (s : Space) (granule : ℕ) (st : ClearingStage) (h : UnmarkedAt s gran
       let few = passing_few (tables_of st.was).starts end in
       let long = length-reverse st.swept in
       let work : s.work ≡ extended st.was.work (map (place_of st.at) names) = ap (λ z. z.work) h.stage.rest in
-      let swept : s.report.swept ≡ extended st.was.report.swept names = ap (λ z. z.report.swept) h.stage.rest in
+      let swept : s.report.swept ≡ with_names st.was.report.swept names = ap (λ z. z.report.swept) h.stage.rest in
       let worked = length-append st.was.work.items (map (place_of st.at) names) in
       let none : length st.was.work.items ≡ 0 = ap length h.stage.can.holds.no_work in
       let as_many = length-map names (place_of st.at) in
@@ -181,6 +185,9 @@ mark_before s st is r in_r not_swept = is.lost_marks.others (granule_of (st.at r
 -- a list that grows by one
 extended_more : {A : Type 0} (l : Roomy A) (xs ys : List A) (x : A) → xs ++ x ∷ [] ≡ ys → pushed (extended l xs) x ≡ extended l ys
 extended_more {A = A} l xs ys x e = ap {A = List A} (λ z. record l { items = z }) (sym (append_group l.items xs (x ∷ [])) ∙ ap (λ z. l.items ++ z) e)
+
+names_more : (l : NameList) (ns ms : List Name) (n : Name) → ns ++ n ∷ [] ≡ ms → with_name (with_names l ns) n ≡ with_names l ms
+names_more l ns ms n e = ap {A = List Name} (λ z. record l { items = z }) (sym (append_group l.items ns (n ∷ [])) ∙ ap (λ z. l.items ++ z) e)
 
 taken_stay : (t u v : Tables) (p : ℕ) (shape : Shape) → TablesStay t u → v ≡ without_counted u p shape → TablesStay t v
 taken_stay t u v p shape stay e = record {
@@ -278,9 +285,9 @@ module _ (a e : Space) (p : Place) (granule : ℕ) (st : ClearingStage) (h : Unm
         let out = refs_out m.last.graph o r m.unreclaimed st.swept ground.distinct begins.member begins.left in
         omega (arith, all, out);
     fewer = let all = h.stage.fewer in let one = fewer_starts in omega (arith, all, one);
-    rest = takes.rest ∙ ap {A = Space} (λ z. with_swept z e.words (pushed z.work p) (pushed z.report.swept r)) h.stage.rest
-        ∙ ap (λ w. with_swept st.was e.words w (pushed (extended st.was.report.swept (reverse st.swept)) r)) (extended_more st.was.work (map (place_of st.at) (reverse st.swept)) (map (place_of st.at) (reverse (r ∷ st.swept))) p work_more)
-        ∙ ap (λ x. with_swept st.was e.words (extended st.was.work (map (place_of st.at) (reverse (r ∷ st.swept)))) x) (extended_more st.was.report.swept (reverse st.swept) (reverse (r ∷ st.swept)) r reversed);
+    rest = takes.rest ∙ ap {A = Space} (λ z. with_swept z e.words (pushed z.work p) (with_name z.report.swept r)) h.stage.rest
+        ∙ ap (λ w. with_swept st.was e.words w (with_name (with_names st.was.report.swept (reverse st.swept)) r)) (extended_more st.was.work (map (place_of st.at) (reverse st.swept)) (map (place_of st.at) (reverse (r ∷ st.swept))) p work_more)
+        ∙ ap (λ x. with_swept st.was e.words (extended st.was.work (map (place_of st.at) (reverse (r ∷ st.swept)))) x) (names_more st.was.report.swept (reverse st.swept) (reverse (r ∷ st.swept)) r reversed);
   }
 
 -- ---- the pass

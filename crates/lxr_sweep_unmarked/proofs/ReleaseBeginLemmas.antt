@@ -27,7 +27,8 @@ use Rattle.lxr_pause_decrements.specs.Cascade.{Ground, Remains, waits}
 use Rattle.lxr_pause_decrements.proofs.CascadeLemmas.{append_nothing, has_reversed, in_heap, refs_reversed}
 use Rattle.lxr_pause_decrements.proofs.GrayLemmas.{grays_none}
 use Rattle.lxr_pause_decrements.proofs.WipeLemmas.{loses_none}
-use Rattle.lxr_sweep_unmarked.specs.Clearing.{IsClearing, clearing, extended}
+use Rattle.lxr_sweep_unmarked.specs.Clearing.{IsClearing, clearing}
+use Rattle.lxr_base.specs.Roomy.{extended}
 use Rattle.lxr_sweep_unmarked.specs.Releasing.{AllAreLeft, ReleaseStage, cascade_of}
 use Rattle.lxr_sweep_unmarked.specs.Sweeping.{CanSweep}
 use Rattle.lxr_sweep_unmarked.proofs.ClearingLemmas.{clearing_ground, clearing_limits, field_there}

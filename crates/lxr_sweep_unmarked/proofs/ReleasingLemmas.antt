@@ -10,6 +10,7 @@ use Rattle.lxr_layout.specs.declared.Shape.{Shape}
 use Rattle.lxr_layout.specs.declared.limits.Limits.{Limits}
 use Rattle.lxr_layout.specs.Places.{first_word}
 use Rattle.lxr_base.specs.Roomy.{Roomy}
+use Rattle.lxr_graph.specs.Listing.{NameList}
 use Rattle.lxr_graph.specs.Names.{has, same_name}
 use Rattle.lxr_graph.specs.State.{Graph, object_at, refs_of, shape_of}
 use Rattle.lxr_graph.proofs.NameSets.{same_itself, same_names, without_parts}
@@ -31,7 +32,7 @@ use Rattle.lxr_sweep_unmarked.specs.Releasing.{AllAreLeft, FieldIsLeft, IsReleas
 -- ---- stages
 
 -- what waits for names that aren't there may be left out
-extra_apart : (l : Limits) (t : Tables) (w : Roomy Place) (d : Roomy Name) (st : CascadeStage) (other : Name → ℕ) → ((o : Name) → IsTrue (has st.moment.unreclaimed o) → other o ≡ st.extra o) → Cascade l t w d st
+extra_apart : (l : Limits) (t : Tables) (w : Roomy Place) (d : NameList) (st : CascadeStage) (other : Name → ℕ) → ((o : Name) → IsTrue (has st.moment.unreclaimed o) → other o ≡ st.extra o) → Cascade l t w d st
     → Cascade l t w d (later st st.gone st.work other)
 extra_apart l t w d st other same is = record {
   remains = remains_still l t d st st.under st.work other st.ungrayed st.unseen is.remains;

@@ -6,6 +6,7 @@ use Rattle.lxr_layout.specs.declared.TheConstants.{DECREMENT_COUNT, DECREMENT_CU
 use Rattle.lxr_layout.specs.declared.Name.{Name}
 use Rattle.lxr_layout.specs.declared.Place.{Place}
 use Rattle.lxr_base.specs.Roomy.{Roomy, emptied}
+use Rattle.lxr_graph.specs.Listing.{NameList, with_names}
 use Rattle.lxr_graph.specs.Names.{has, same_name, without}
 use Rattle.lxr_graph.proofs.NameSets.{in_without, not_both, same_names, without_parts}
 use Rattle.lxr_image.specs.declared.space.Space.{Space}
@@ -34,7 +35,7 @@ use Rattle.lxr_pause_decrements.specs.Wipe.{LosesBits}
 use Rattle.lxr_pause_decrements.proofs.CascadeLemmas.{granules_differ, has_reversed}
 use Rattle.lxr_pause_decrements.proofs.GrayLemmas.{grays_end}
 use Rattle.lxr_pause_decrements.proofs.WipeLemmas.{loses_same}
-use Rattle.lxr_sweep_unmarked.specs.Clearing.{IsClearing, clearing, extended}
+use Rattle.lxr_sweep_unmarked.specs.Clearing.{IsClearing, clearing}
 use Rattle.lxr_sweep_unmarked.specs.Releasing.{IsReleasing, cascade_of, lowered_to}
 use Rattle.lxr_sweep_unmarked.specs.Sweeping.{SweepsGrays, SweepsUnmarked, swept_moment}
 use Rattle.lxr_sweep_unmarked.proofs.ClearingLemmas.{ground_of}
@@ -83,10 +84,10 @@ none_entries f from n p none = ap (λ z. entries_between f from z p) none
 -- ---- the space
 
 -- the space with other words, another worklist, and other swept and dead names in its report
-abbrev swept_space : Space → List ℕ → Roomy Place → Roomy Name → Roomy Name → Space
+abbrev swept_space : Space → List ℕ → Roomy Place → NameList → NameList → Space
 swept_space s words work swept dead = record s { words = words; work = work; report = record s.report { swept = swept; dead = dead } }
 
-room_stays : (s : Space) (words : List ℕ) (swept dead : List Name) → HasRoom s → HasRoom (swept_space s words s.work (extended s.report.swept swept) (extended s.report.dead dead))
+room_stays : (s : Space) (words : List ℕ) (swept dead : List Name) → HasRoom s → HasRoom (swept_space s words s.work (with_names s.report.swept swept) (with_names s.report.dead dead))
 room_stays s words swept dead is = record {
   registers = is.registers;
   deferred = is.deferred;
@@ -165,18 +166,19 @@ module _ (s b c : Space) (m : Moment) (at : Name → ℕ) (swept : List Name) (i
 
   -- ---- what is left of it
 
-  same_space : after ≡ swept_space s c.words s.work (extended s.report.swept names) (extended s.report.dead died)
+  same_space : after ≡ swept_space s c.words s.work (with_names s.report.swept names) (with_names s.report.dead died)
   same_space =
       let room : c.work.room ≡ s.work.room = keeps.leaves.work_room ∙ ap (λ z. z.work.room) is.rest in
       let work : emptied c.work ≡ s.work = λ i. record { items = sym is.can.holds.no_work i; room = room i } in
       let b_dead : b.report.dead ≡ s.report.dead = ap (λ z. z.report.dead) is.rest in
       let items : c.report.dead.items ≡ s.report.dead.items ++ died = done.stage.cascade.remains.reported ∙ ap (λ d. d.items ++ died) b_dead in
       let dead_room : c.report.dead.room ≡ s.report.dead.room = keeps.leaves.dead_room ∙ ap (λ d. d.room) b_dead in
-      let dead : c.report.dead ≡ extended s.report.dead died = λ i. record { items = items i; room = dead_room i } in
+      let dead_listed : c.report.dead.listed ≡ s.report.dead.listed = keeps.leaves.dead_listed ∙ ap (λ d. d.listed) b_dead in
+      let dead : c.report.dead ≡ with_names s.report.dead died = λ i. record { items = items i; room = dead_room i; listed = dead_listed i } in
       ap {A = Space} (λ z. record z { work = emptied c.work }) keeps.leaves.rest
       ∙ ap {A = Space} (λ z. with_lists z c.words (emptied c.work) c.report.dead) is.rest
-      ∙ ap {A = Roomy Place} (λ w. swept_space s c.words w (extended s.report.swept names) c.report.dead) work
-      ∙ ap {A = Roomy Name} (λ d. swept_space s c.words s.work (extended s.report.swept names) d) dead
+      ∙ ap {A = Roomy Place} (λ w. swept_space s c.words w (with_names s.report.swept names) c.report.dead) work
+      ∙ ap {A = NameList} (λ d. swept_space s c.words s.work (with_names s.report.swept names) d) dead
 
   stays : (n : Name) → IsTrue (has us n) → has (without m.stuck names) n ≡ false → has m.stuck n ≡ false
   stays n in_n loose = false_from_ne_true (has m.stuck n) (λ k. not_both _ (in_without m.stuck names n k (λ q. not_both (has names n) q (without_parts m.unreclaimed names n in_n).1)) loose)

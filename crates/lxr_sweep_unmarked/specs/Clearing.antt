@@ -1,10 +1,11 @@
 -- What holds of a space while unmarked objects are taken out of its heap, one after another.
-use Rattle.std.specs.Prelude.{◌≡◌, ℕ, ◌+◌, ◌*◌, ◌<◌, false, List, ◌∷◌, ◌++◌, IsTrue, length, map, reverse}
+use Rattle.std.specs.Prelude.{◌≡◌, ℕ, ◌+◌, ◌*◌, ◌<◌, false, List, ◌∷◌, IsTrue, length, map, reverse}
 use Rattle.lxr_layout.specs.declared.Name.{Name}
 use Rattle.lxr_layout.specs.declared.Place.{Place}
 use Rattle.lxr_layout.specs.declared.Shape.{Shape}
 use Rattle.lxr_layout.specs.declared.TheConstants.{GRANULES_IN_BLOCK}
-use Rattle.lxr_base.specs.Roomy.{Roomy, pushed}
+use Rattle.lxr_base.specs.Roomy.{Roomy, extended, pushed}
+use Rattle.lxr_graph.specs.Listing.{NameList, with_name, with_names}
 use Rattle.lxr_graph.specs.Names.{has, without}
 use Rattle.lxr_image.specs.declared.space.Space.{Space}
 use Rattle.lxr_image.specs.Spaces.{IsSpace, tables_of}
@@ -44,18 +45,14 @@ cleared_too st r = record st { swept = r ∷ st.swept; passed = st.passed + 1 }
 abbrev pub left_so_far : ClearingStage → List Name
 left_so_far st = without st.moment.unreclaimed st.swept
 
--- a list with further items behind it, in the same room
-abbrev pub extended : {T : Type 0} → Roomy T → List T → Roomy T
-extended l xs = record l { items = l.items ++ xs }
-
 -- the space with other words, another worklist and other swept names in its report
-abbrev pub with_swept : Space → List ℕ → Roomy Place → Roomy Name → Space
+abbrev pub with_swept : Space → List ℕ → Roomy Place → NameList → Space
 with_swept s words work swept = record s { words = words; work = work; report = record s.report { swept = swept } }
 
 -- the object at a place begins no more, is reported as swept and waits in the worklist
 pub record TakesOut (before after : Space) (p : Place) (n : Name) (shape : Shape) : Type 0 where
   pub tables : tables_of after ≡ without_counted (tables_of before) p.0 shape
-  pub rest : after ≡ with_swept before after.words (pushed before.work p) (pushed before.report.swept n)
+  pub rest : after ≡ with_swept before after.words (pushed before.work p) (with_name before.report.swept n)
 
 -- Unmarked objects are taken out so far: what is left has its bits, marks and counts, and what is taken out is reported and waits in
 -- the worklist, each once. All references are those from what is left and from what is taken out.
@@ -76,7 +73,7 @@ pub record IsClearing (s : Space) (st : ClearingStage) : Type 0 where
   pub references : (o : Name) → references_from st.moment.last.graph st.moment.unreclaimed o
       ≡ references_from st.moment.last.graph (left_so_far st) o + references_from st.moment.last.graph st.swept o
   pub fewer : length st.swept + passing (tables_of s).starts (GRANULES_IN_BLOCK * st.was.limits.blocks) ≡ passing (tables_of st.was).starts (GRANULES_IN_BLOCK * st.was.limits.blocks)
-  pub rest : s ≡ with_swept st.was s.words (extended st.was.work (map (place_of st.at) (reverse st.swept))) (extended st.was.report.swept (reverse st.swept))
+  pub rest : s ≡ with_swept st.was s.words (extended st.was.work (map (place_of st.at) (reverse st.swept))) (with_names st.was.report.swept (reverse st.swept))
 
 -- an unmarked object begins at the granule that a pass has come to
 pub record UnmarkedAt (s : Space) (granule : ℕ) (st : ClearingStage) : Type 0 where

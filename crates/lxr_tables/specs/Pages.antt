@@ -20,6 +20,10 @@ abbrev pub IsReadable : Slots ℕ → Option (List Bool) → Type 0
 IsReadable row None = IsFull row
 IsReadable row (Some notes) = IsPaged row notes
 
+-- each word is 0 of the page of the word at an index
+abbrev pub PageIsZero : List ℕ → ℕ → Type 0
+PageIsZero words at = (k : ℕ) → k < length words → k / WORDS_IN_PAGE ≡ at / WORDS_IN_PAGE → slice_index words k ≡ 0
+
 -- the page of the word at an index has a word that isn't 0
 pub record IsInUsedPage (words : List ℕ) (at : ℕ) : Type 0 where
   pub other : ℕ

@@ -6,10 +6,10 @@
 //! no look at pages, so `open` fills all that are left. That happens once: from then on neither call copies or fills a
 //! word or takes memory, and the time of both doesn't grow with the number of words.
 
-ghost use Rattle.std.specs.Prelude.{◌≡◌, ℕ, ◌+◌, ◌<◌, ◌≤◌, List, [], length, slice_index, slice_set, replicate, IfOk};
+ghost use Rattle.std.specs.Prelude.{◌≡◌, ℕ, ◌+◌, ◌<◌, ◌≤◌, List, [], length, slice_index, slice_set, replicate, IfNone, IfOk, IfSome};
 ghost use Rattle.std.specs.Mem.Slots.{slots_items};
 ghost use Rattle.atomic_table.specs.Table.{opening, Final, Seen};
-ghost use Rattle.lxr_tables.specs.Pages.{IsInUsedPage, IsReadable};
+ghost use Rattle.lxr_tables.specs.Pages.{IsInUsedPage, IsReadable, PageIsZero};
 ghost use Rattle.lxr_tables.specs.Words.{overwritten};
 
 use crate::KeyFrom;
@@ -64,6 +64,18 @@ impl<A: Allocator> ClosedWords<A> {
         match &self.pages {
             Some(pages) => pages.word(&self.memory.words, at),
             None => *self.memory.words.get(at),
+        }
+    }
+
+    /// The word at an index, where it lies; none where its page isn't written, whose words are all 0.
+    pub fn lend(&self, at: usize) -> Option<&u64>
+        requires { at < length self.now }
+        ensures some { IfSome result (λ word. word.now ≡ slice_index self.now at) }
+        ensures none { IfNone result (PageIsZero self.now at) }
+    {
+        match &self.pages {
+            Some(pages) => pages.lend(&self.memory.words, at),
+            None => Some(self.memory.words.get(at)),
         }
     }
 

@@ -2,10 +2,10 @@
 //!
 //! A word of a page that is not written is 0, and is read without touching its memory. The first write of a word fills its
 //! page with zeros and notes it as written. So a row takes memory in proportion to the pages that were written.
-ghost use Rattle.std.specs.Prelude.{◌≡◌, ℕ, ◌+◌, ◌*◌, ◌/◌, ◌<◌, ◌≤◌, Bool, true, false, List, length, replicate, slice_index, slice_index_or, slice_set, IfOk};
+ghost use Rattle.std.specs.Prelude.{◌≡◌, ℕ, ◌+◌, ◌*◌, ◌/◌, ◌<◌, ◌≤◌, Bool, true, false, List, length, replicate, slice_index, slice_index_or, slice_set, IfNone, IfOk, IfSome};
 ghost use Rattle.std.specs.Mem.Slots.{slots_items, slots_filled, slots_len, SamePlaces, IsFull};
 ghost use Rattle.lxr_tables.specs.declared.pages.TheConstants.{WORDS_IN_PAGE};
-ghost use Rattle.lxr_tables.specs.Pages.{AreSoMany, IsPaged};
+ghost use Rattle.lxr_tables.specs.Pages.{AreSoMany, IsPaged, PageIsZero};
 ghost use Rattle.lxr_tables.specs.Words.{overwritten};
 
 use core::slots::Slots;
@@ -67,6 +67,20 @@ impl<A: Allocator> Pages<A> {
             *row.get(at)
         } else {
             0
+        }
+    }
+
+    /// The word at an index, where it lies; none where its page is not written, whose words are all 0.
+    pub(crate) fn lend<'r>(&self, row: &'r Slots<u64>, at: usize) -> Option<&'r u64>
+        requires paged { IsPaged row.now self.now }
+        requires within { at < slots_len row.now }
+        ensures some { IfSome result (λ word. word.now ≡ slice_index (slots_items row.now) at) }
+        ensures none { IfNone result (PageIsZero (slots_items row.now) at) }
+    {
+        if self.written[at / WORDS_IN_PAGE] {
+            Some(row.get(at))
+        } else {
+            None
         }
     }
 

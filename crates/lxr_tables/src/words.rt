@@ -3,9 +3,9 @@
 //! `Words` is what the tables ask of their words. `PlainWords` are words of one owner; contracts see the list of them.
 //! They lie in the memory of a closed table of atomic words, so that an epoch opens that over them, and gives them back at
 //! its end, without a copy. That memory is written where it is touched, and whole once a table was opened over it.
-ghost use Rattle.std.specs.Prelude.{◌≡◌, ℕ, ◌+◌, ◌<◌, ◌≤◌, List, [], length, slice_index, slice_set, replicate, IfOk};
+ghost use Rattle.std.specs.Prelude.{◌≡◌, ℕ, ◌+◌, ◌<◌, ◌≤◌, List, [], length, slice_index, slice_set, replicate, IfNone, IfOk, IfSome};
 ghost use Rattle.atomic_table.specs.Table.{opening, Final, Seen};
-ghost use Rattle.lxr_tables.specs.Pages.{IsInUsedPage};
+ghost use Rattle.lxr_tables.specs.Pages.{IsInUsedPage, PageIsZero};
 ghost use Rattle.lxr_tables.specs.Words.{overwritten};
 
 use crate::{ClosedWords, KeyFrom};
@@ -65,6 +65,18 @@ impl PlainWords {
         Ok(PlainWords {
             closed: Some(closed),
         })
+    }
+
+    /// The word at an index, where it lies; none where its page isn't written, whose words are all 0.
+    pub fn lend(&self, at: usize) -> Option<&u64>
+        requires { at < length self.now }
+        ensures some { IfSome result (λ word. word.now ≡ slice_index self.now at) }
+        ensures none { IfNone result (PageIsZero self.now at) }
+    {
+        match &self.closed {
+            Some(closed) => closed.lend(at),
+            None => None,
+        }
     }
 
     /// The word at an index, in a page that has a word that isn't 0: such a page is written, and no note of it is asked.

@@ -1,6 +1,6 @@
 //! The report of a pause: its number and kind, its lists of names, and, where they are asked for, its counts.
 ghost use Rattle.std.specs.Prelude.{◌≡◌, ◌+◌, ◌<◌, ◌≤◌, [], ◌∷◌, ◌++◌, ◌&&◌, IsTrue, OnErr, OnOk, decimal, flat_map, length, not};
-ghost use Rattle.lxr_graph.specs.History.{HasToldCounts, report_of};
+ghost use Rattle.lxr_graph.specs.History.{HasToldCounts, HasToldNames, report_of};
 ghost use Rattle.lxr_text_stream.specs.Streams.{Appends, AppendsFront, Rose};
 ghost use Rattle.lxr_text_print.specs.Lines.{spaced_name, words};
 ghost use Rattle.lxr_text_print.specs.Pages.{Moves};
@@ -11,9 +11,10 @@ use lxr_graph::{Count, Counts, Kind, Names, Report};
 use lxr_layout::Name;
 use lxr_text_stream::{Sink, WriteError};
 
-/// Prints the report of a pause, with its counts where they are asked for and the pause isn't plain: then they were told. After an
-/// error a front of the text is written.
+/// Prints the report of a pause, whose names were told, with its counts where they are asked for and the pause isn't plain: then they
+/// were told too. After an error a front of the text is written.
 pub fn print_pause<O: Sink>(report: &Report, counts: bool, output: &mut O) -> Result<(), WriteError>
+    requires names { HasToldNames report.now }
     requires told { IsTrue (counts && not (is_plain report.now.kind)) → HasToldCounts report.now }
     ensures ok { let text = report_text counts (report_of report.now) in
         OnOk result (Appends (O.written output.old) (O.written output.new) text) }
@@ -52,14 +53,15 @@ fn push_pause(page: &mut Page, number: u32, kind: Kind)
     }
 }
 
-/// Puts a line of names, behind what waits on the page.
+/// Puts a line of names, which were listed, after what waits on the page.
 fn put_names<O: Sink>(
     page: &mut Page,
     output: &mut O,
     label: &str,
     names: &Names,
 ) -> Result<(), WriteError>
-    requires { length label.now ≤ 20 }
+    requires listed { IsTrue names.now.listed }
+    requires label { length label.now ≤ 20 }
     ensures ok { OnOk result (Moves (O.written output.old) (O.written output.new)
         (page.old ++ names_text label.now names.now.items) page.new) }
     ensures err { OnErr result (AppendsFront (O.written output.old) (O.written output.new)

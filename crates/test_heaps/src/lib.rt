@@ -5,4 +5,6 @@
 #[cfg(test)]
 mod renewed;
 #[cfg(test)]
+mod slices;
+#[cfg(test)]
 mod tests;

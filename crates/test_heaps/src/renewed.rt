@@ -7,7 +7,7 @@ use std::rt::HostRuntime;
 
 /// A heap of two blocks, without a pace, all of which it may use.
 const SETTINGS: Settings = Settings {
-    size: 40,
+    size: 48,
     blocks: 2,
     body_blocks: 1,
     pace: 0,
@@ -15,6 +15,8 @@ const SETTINGS: Settings = Settings {
     unused: 0,
     room: 0,
     grow: 0,
+    work: 8,
+    reserved: 0,
 };
 
 /// A new object with this word stands behind reference 0 of the world, and no register holds it.

@@ -49,5 +49,8 @@ const struct calls calls_lxr = {
     .set_pace = lxr_set_pace,
     .set_room = lxr_set_room,
     .set_grow = lxr_set_grow,
+    .trim = lxr_trim,
+    .set_work = lxr_set_work,
+    .work = lxr_work,
     .count = lxr_count,
 };

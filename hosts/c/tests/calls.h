@@ -52,6 +52,9 @@ struct calls {
     lxr_code (*set_pace)(lxr_heap *, uint64_t);
     lxr_code (*set_room)(lxr_heap *, uint32_t);
     lxr_code (*set_grow)(lxr_heap *, uint32_t);
+    lxr_code (*trim)(lxr_heap *);
+    lxr_code (*set_work)(lxr_heap *, uint32_t);
+    lxr_code (*work)(lxr_heap *, uint32_t, uint32_t *);
     lxr_code (*count)(const lxr_heap *, uint32_t, uint64_t *);
 };
 

@@ -20,6 +20,9 @@
 /* Of those that end before the room. */
 #define SECOND 32
 
+/* Of those that end before the work. */
+#define THIRD 40
+
 static unsigned long checks;
 
 static void check(uint64_t found, uint64_t wanted, const char *what, int line) {
@@ -34,8 +37,10 @@ static void check(uint64_t found, uint64_t wanted, const char *what, int line) {
 /* The out parameters of all calls. A refused call leaves them as `wipe` made them. */
 static uint32_t narrow, refs, words, blocks;
 static uint64_t wide, many[8];
+static const uint64_t *first_word;
 
 static void wipe(void) {
+    first_word = NULL;
     narrow = refs = words = blocks = UNTOUCHED;
     wide = UNTOUCHED;
     for (size_t at = 0; at < 8; at++) many[at] = UNTOUCHED;
@@ -47,6 +52,7 @@ static void is_untouched(int line) {
     check(words, UNTOUCHED, "the words of a refused call", line);
     check(blocks, UNTOUCHED, "the blocks of a refused call", line);
     check(wide, UNTOUCHED, "the word of a refused call", line);
+    check(first_word == NULL, 1, "the place of a refused call", line);
     for (size_t at = 0; at < 8; at++) check(many[at], UNTOUCHED, "a word of the buffer of a refused call", line);
 }
 
@@ -111,6 +117,11 @@ static void refuses_all(lxr_heap *heap) {
         REFUSED(lxr_set_pace(heap, n), LXR_E_NO_HEAP);
         REFUSED(lxr_set_room(heap, n), LXR_E_NO_HEAP);
         REFUSED(lxr_set_grow(heap, n), LXR_E_NO_HEAP);
+        REFUSED(lxr_trim(heap), LXR_E_NO_HEAP);
+        REFUSED(lxr_trim_next(heap, n, &narrow), LXR_E_NO_HEAP);
+        REFUSED(lxr_first_word(heap, &first_word), LXR_E_NO_HEAP);
+        REFUSED(lxr_set_work(heap, n), LXR_E_NO_HEAP);
+        REFUSED(lxr_work(heap, n, &narrow), LXR_E_NO_HEAP);
         REFUSED(lxr_count(heap, n, &wide), LXR_E_NO_HEAP);
     }
 }
@@ -126,10 +137,20 @@ static lxr_code open_heap(lxr_heap *heap, uint32_t of_blocks, uint32_t of_bodies
 
 /* Settings of another size than there is are refused, whatever else they have. */
 static void refuses_sizes_of_settings(lxr_heap *heap) {
-    static const uint64_t wrong[] = {
-        0,        1,         8, FIRST - 8, FIRST - 1, FIRST + 1, SECOND - 1, SECOND + 1, sizeof(lxr_settings) - 1, sizeof(lxr_settings) + 1,
-        1u << 31, UINT64_MAX
-    };
+    static const uint64_t wrong[] = { 0,
+                                      1,
+                                      8,
+                                      FIRST - 8,
+                                      FIRST - 1,
+                                      FIRST + 1,
+                                      SECOND - 1,
+                                      SECOND + 1,
+                                      THIRD - 1,
+                                      THIRD + 1,
+                                      sizeof(lxr_settings) - 1,
+                                      sizeof(lxr_settings) + 1,
+                                      1u << 31,
+                                      UINT64_MAX };
     for (size_t at = 0; at < sizeof wrong / sizeof *wrong; at++) {
         lxr_settings settings = LXR_SETTINGS(1, 1);
         settings.size = wrong[at];
@@ -174,6 +195,17 @@ static void refuses_rooms(lxr_heap *heap) {
     }
 }
 
+/* So is one with more work than there may be; settings that end before it say none. */
+static void refuses_work(lxr_heap *heap) {
+    static const uint32_t wrong[] = { LXR_MOST_WORK + 1, 1u << 31, LAST };
+    for (size_t at = 0; at < sizeof wrong / sizeof *wrong; at++) {
+        lxr_settings settings = LXR_SETTINGS(9, 1);
+        settings.work = wrong[at];
+        REFUSED(lxr_open(heap, &settings), LXR_E_SIZE);
+        REFUSED(lxr_close(heap), LXR_E_NO_HEAP);
+    }
+}
+
 /* A heap of these settings has so many registers: the last one is nil, and there is none behind it. */
 static void opens_with_registers(const lxr_settings *settings, uint32_t wanted) {
     lxr_heap heap = LXR_HEAP_INIT;
@@ -213,6 +245,12 @@ static void numbers_of_registers(void) {
     memcpy(second, &settings, SECOND);
     opens_with_registers(second, 64);
     free(second);
+    void *third = malloc(THIRD);
+    if (!third) exit(5);
+    settings.size = THIRD;
+    memcpy(third, &settings, THIRD);
+    opens_with_registers(third, 64);
+    free(third);
 }
 
 /* Whether a heap is as it is opened. */
@@ -247,6 +285,7 @@ static void handles(void) {
     refuses_sizes_of_heaps(&heap);
     refuses_numbers_of_registers(&heap);
     refuses_rooms(&heap);
+    refuses_work(&heap);
     IS(open_heap(&heap, 4, 2), LXR_OK);
     is_opened(&heap);
     REFUSED(open_heap(&heap, 4, 2), LXR_E_IN_USE);
@@ -999,6 +1038,78 @@ static void rooms(void) {
     IS(lxr_close(&heap), LXR_OK);
 }
 
+/* How many words that aren't 0 a block has. */
+static uint64_t words_in(lxr_heap *heap, uint32_t block) {
+    uint64_t some = 0;
+    IS(lxr_first_word(heap, &first_word), LXR_OK);
+    for (size_t at = 0; at < LXR_BLOCK_WORDS; at++) some += first_word[(size_t)block * LXR_BLOCK_WORDS + at] != 0;
+    return some;
+}
+
+/* Each free block is told once, in order, with zeros for words; and no other one is. A heap of 200 blocks, in the first
+ * `used` of which objects lay. Of another one the memory is what malloc gave, and the heap doesn't read it either. */
+static void free_blocks_are_told(lxr_heap *heap, uint32_t used) {
+    uint64_t told = 0;
+    uint32_t from = 0;
+    for (uint32_t block = 0; lxr_trim_next(heap, from, &block) == LXR_OK; from = block + 1) {
+        IS(block >= from && block < 200, 1);
+        if (block < used) IS(words_in(heap, block), 0);
+        told++;
+    }
+    IS(told, count_of(heap, LXR_COUNT_FREE_BLOCKS));
+    REFUSED(lxr_trim_next(heap, from, &narrow), LXR_E_NOTHING);
+    REFUSED(lxr_trim_next(heap, LAST, &narrow), LXR_E_NOTHING);
+}
+
+/* A list of so many objects of 1 KB, whose words count down from its length, in register 1. */
+static void keep_list(lxr_heap *heap, uint32_t length) {
+    IS(lxr_nil(heap, 1), LXR_OK);
+    for (uint32_t made = 0; made < length; made++) {
+        IS(lxr_new(heap, 2, 1, 126), LXR_OK);
+        for (uint32_t word = 0; word < 126; word++) IS(lxr_put(heap, 2, word, made + 1), LXR_OK);
+        IS(lxr_store(heap, 2, 0, 1), LXR_OK);
+        IS(lxr_move(heap, 1, 2), LXR_OK);
+    }
+    IS(lxr_nil(heap, 2), LXR_OK);
+}
+
+static void is_list(lxr_heap *heap, uint32_t length) {
+    IS(lxr_move(heap, 2, 1), LXR_OK);
+    for (uint32_t left = length; left > 0; left--) {
+        for (uint32_t word = 0; word < 126; word++) {
+            IS(lxr_get(heap, 2, word, &wide), LXR_OK);
+            IS(wide, left);
+        }
+        IS(lxr_load(heap, 2, 2, 0), LXR_OK);
+    }
+    IS(lxr_is_nil(heap, 2, &narrow), LXR_OK);
+    IS(narrow, 1);
+}
+
+/* Free blocks' words become 0, and their memory goes; what is kept stays, and new objects have nil references and zeros where others lay. */
+static void trims(void) {
+    lxr_heap heap = LXR_HEAP_INIT;
+    const lxr_settings settings = LXR_SETTINGS(200, 1);
+    IS(lxr_open(&heap, &settings), LXR_OK);
+    IS(lxr_trim(&heap), LXR_OK);
+    free_blocks_are_told(&heap, 0);
+    for (int times = 0; times < 3; times++) {
+        drop_ring(&heap, 3000);
+        keep_list(&heap, 1500);
+        IS(lxr_collect(&heap), LXR_OK);
+        uint64_t live = count_of(&heap, LXR_COUNT_LIVE), free_blocks = count_of(&heap, LXR_COUNT_FREE_BLOCKS);
+        IS(words_in(&heap, 0) > 0, 1);
+        if (times != 1) free_blocks_are_told(&heap, 60);
+        IS(lxr_trim(&heap), LXR_OK);
+        free_blocks_are_told(&heap, 60);
+        IS(count_of(&heap, LXR_COUNT_LIVE), live);
+        IS(count_of(&heap, LXR_COUNT_FREE_BLOCKS), free_blocks);
+        is_list(&heap, 1500);
+    }
+    IS(lxr_close(&heap), LXR_OK);
+    REFUSED(lxr_trim(&heap), LXR_E_NO_HEAP);
+}
+
 /* Pauses that the host asks for, one while each small ring is held, put off no collecting one: the room holds beside them. */
 static void rooms_beside_asked_pauses(void) {
     lxr_heap heap = LXR_HEAP_INIT;
@@ -1044,6 +1155,139 @@ static void room_that_is_too_small(void) {
     IS(lxr_nil(&heap, 2), LXR_OK);
     IS(lxr_collect(&heap), LXR_OK);
     IS(count_of(&heap, LXR_COUNT_LIVE), 0);
+    IS(lxr_close(&heap), LXR_OK);
+}
+
+/* The levels of a tree below its root, and how many objects it has. */
+#define LEVELS    17u
+#define TREE_SIZE ((1u << (LEVELS + 1)) - 1)
+
+/* Register `level` + 1 leads to a tree of so many levels below its root, each object of which has two references. */
+static void grow_tree(lxr_heap *heap, uint32_t level) {
+    IS(lxr_new(heap, level + 1, 2, 1), LXR_OK);
+    for (uint32_t side = 0; side < 2 && level; side++) {
+        grow_tree(heap, level - 1);
+        IS(lxr_store(heap, level + 1, side, level), LXR_OK);
+    }
+    if (level) IS(lxr_nil(heap, level), LXR_OK);
+}
+
+/* A heap of so much work, with a tree that nothing keeps any more: its death waits for the next pause. */
+static void open_with_dying_tree(lxr_heap *heap, uint32_t work) {
+    lxr_settings settings = LXR_SETTINGS(4000, 1);
+    settings.registers = 32;
+    settings.work = work;
+    settings.grow = 0;
+    IS(lxr_open(heap, &settings), LXR_OK);
+    IS(lxr_set_pace(heap, LXR_PACE_NEVER), LXR_OK);
+    grow_tree(heap, LEVELS);
+    IS(lxr_pause(heap), LXR_OK);
+    IS(lxr_pause(heap), LXR_OK);
+    IS(count_of(heap, LXR_COUNT_LIVE), TREE_SIZE);
+    IS(lxr_nil(heap, LEVELS + 1), LXR_OK);
+    IS(lxr_set_pace(heap, 65536), LXR_OK);
+    IS(lxr_pause(heap), LXR_OK);
+}
+
+/* Makes an object of 64 bytes that nothing keeps; what is counted as dead, where a pause came before it. */
+static uint64_t dead_before_one(lxr_heap *heap) {
+    uint64_t pauses = count_of(heap, LXR_COUNT_PAUSES);
+    IS(lxr_new(heap, 1, 0, 7), LXR_OK);
+    IS(lxr_nil(heap, 1), LXR_OK);
+    return count_of(heap, LXR_COUNT_PAUSES) == pauses ? 0 : count_of(heap, LXR_COUNT_DEAD);
+}
+
+/* With work no pause comes before all is done in slices, and the one that comes then counts all that died. */
+static void tree_in_slices(void) {
+    lxr_heap heap = LXR_HEAP_INIT;
+    open_with_dying_tree(&heap, 8);
+    uint64_t dead = 0, most = 0, free_blocks = 0, news = 0;
+    IS(count_of(&heap, LXR_COUNT_WAITING) > 0, 1);
+    while (!dead) {
+        uint64_t waiting = count_of(&heap, LXR_COUNT_WAITING);
+        if (waiting > most) most = waiting;
+        free_blocks = count_of(&heap, LXR_COUNT_FREE_BLOCKS);
+        dead = dead_before_one(&heap);
+        news++;
+    }
+    IS(dead, TREE_SIZE);
+    IS(news > TREE_SIZE / 8 && news < TREE_SIZE / 8 + 200, 1);         /* eight units for each of them */
+    IS(most < 64, 1);                                                  /* what was queued last is done first */
+    IS(free_blocks + 100 > count_of(&heap, LXR_COUNT_FREE_BLOCKS), 1); /* the tree had 250; the pause frees what was made meanwhile */
+    for (news = 10000; news--;) IS(dead_before_one(&heap), 0);
+    IS(lxr_close(&heap), LXR_OK);
+}
+
+/* Without work the first pause by the pace does it all. */
+static void tree_at_once(void) {
+    lxr_heap heap = LXR_HEAP_INIT;
+    open_with_dying_tree(&heap, 0);
+    uint64_t free_blocks = count_of(&heap, LXR_COUNT_FREE_BLOCKS);
+    for (uint32_t news = 1024; news--;) IS(dead_before_one(&heap), 0);
+    IS(dead_before_one(&heap), TREE_SIZE);
+    IS(free_blocks + 200 < count_of(&heap, LXR_COUNT_FREE_BLOCKS), 1);
+    IS(lxr_close(&heap), LXR_OK);
+}
+
+/* The host does it itself, in parts, and a pause counts what died since the one before it. Nothing is done where nothing waits. */
+static void work_in_idle_time(void) {
+    lxr_heap heap = LXR_HEAP_INIT;
+    open_with_dying_tree(&heap, 0);
+    uint64_t live = count_of(&heap, LXR_COUNT_LIVE), before = count_of(&heap, LXR_COUNT_FREE_BLOCKS);
+    uint32_t more = 0, calls = 0;
+    IS(lxr_work(&heap, 0, &more), LXR_OK);
+    IS(more, 1);
+    IS(count_of(&heap, LXR_COUNT_FREE_BLOCKS), before);
+    for (; more; calls++) IS(lxr_work(&heap, 1000, &more), LXR_OK);
+    IS(calls, TREE_SIZE / 1000 + 1);
+    IS(count_of(&heap, LXR_COUNT_WAITING), 0);
+    IS(count_of(&heap, LXR_COUNT_FREE_BLOCKS) > before + 200, 1);
+    IS(count_of(&heap, LXR_COUNT_LIVE), live);
+    IS(lxr_work(&heap, LAST, &more), LXR_OK);
+    IS(more, 0);
+    IS(lxr_pause(&heap), LXR_OK);
+    IS(count_of(&heap, LXR_COUNT_DEAD), TREE_SIZE);
+    IS(count_of(&heap, LXR_COUNT_LIVE), 0);
+    REFUSED(lxr_set_work(&heap, LXR_MOST_WORK + 1), LXR_E_SIZE);
+    REFUSED(lxr_set_work(&heap, LAST), LXR_E_SIZE);
+    IS(lxr_set_work(&heap, LXR_MOST_WORK), LXR_OK);
+    IS(lxr_close(&heap), LXR_OK);
+}
+
+/* A pause by the room comes at once, though slices have more to do. */
+static void room_waits_for_no_slice(void) {
+    lxr_heap heap = LXR_HEAP_INIT;
+    open_with_dying_tree(&heap, 1);
+    uint32_t used = 4000 - (uint32_t)count_of(&heap, LXR_COUNT_FREE_BLOCKS);
+    IS(lxr_set_room(&heap, used + 10), LXR_OK);
+    for (uint32_t news = 10 * 32768 / 64; news--;) IS(dead_before_one(&heap), 0);
+    IS(count_of(&heap, LXR_COUNT_WAITING) > 0, 1);
+    IS(dead_before_one(&heap), TREE_SIZE);
+    IS(lxr_close(&heap), LXR_OK);
+}
+
+/* Slices end before an array of many parts: these wait for the pause, and there is nothing further to do. */
+static void array_held_back(void) {
+    lxr_heap heap = LXR_HEAP_INIT;
+    lxr_settings settings = LXR_SETTINGS(4000, 1);
+    IS(lxr_open(&heap, &settings), LXR_OK);
+    IS(lxr_set_pace(&heap, LXR_PACE_NEVER), LXR_OK);
+    IS(lxr_array_new(&heap, 1, 98 * 1023), LXR_OK);
+    IS(lxr_pause(&heap), LXR_OK);
+    IS(lxr_pause(&heap), LXR_OK);
+    IS(lxr_nil(&heap, 1), LXR_OK);
+    IS(lxr_pause(&heap), LXR_OK);
+    IS(count_of(&heap, LXR_COUNT_WAITING), 1);
+    uint32_t more = 7;
+    IS(lxr_work(&heap, 1, &more), LXR_OK);
+    IS(more, 1);
+    uint64_t parts = count_of(&heap, LXR_COUNT_WAITING);
+    IS(parts, 98);
+    IS(lxr_work(&heap, LAST, &more), LXR_OK);
+    IS(more, 0);
+    IS(count_of(&heap, LXR_COUNT_WAITING), parts);
+    IS(lxr_pause(&heap), LXR_OK);
+    IS(count_of(&heap, LXR_COUNT_DEAD), parts + 1);
     IS(lxr_close(&heap), LXR_OK);
 }
 
@@ -1125,6 +1369,12 @@ int main(void) {
     rooms();
     rooms_beside_asked_pauses();
     room_that_is_too_small();
+    trims();
+    tree_in_slices();
+    array_held_back();
+    room_waits_for_no_slice();
+    tree_at_once();
+    work_in_idle_time();
     two_heaps();
     static const uint32_t numbers_there[] = { 16, 17, 64, 255, 256 };
     for (size_t at = 0; at < sizeof numbers_there / sizeof *numbers_there; at++) {

@@ -42,4 +42,9 @@
 #define lxr_set_pace         plain_set_pace
 #define lxr_set_room         plain_set_room
 #define lxr_set_grow         plain_set_grow
+#define lxr_trim             plain_trim
+#define lxr_trim_next        plain_trim_next
+#define lxr_first_word       plain_first_word
+#define lxr_set_work         plain_set_work
+#define lxr_work             plain_work
 #define lxr_count            plain_count

@@ -282,6 +282,37 @@ static void call_set_grow(void) {
     if (code == LXR_OK) now.grow = hundredths;
 }
 
+/* Nothing is told of it: what comes after has to be the same as ever. Mostly after a collecting pause, which leaves most blocks free. */
+static void call_trim(void) {
+    if (!one_in(4)) call_collect();
+    agree("trim", calls_lxr.trim(&now.lxr), calls_plain.trim(&now.plain));
+}
+
+/* Units: mostly few, so that something is left to wait. */
+static uint32_t some_units(void) { return one_in(12) ? wild() : one_in(3) ? below(1000) : below(8); }
+
+static void call_set_work(void) {
+    uint32_t units = some_units();
+    agree("set_work", calls_lxr.set_work(&now.lxr, units), calls_plain.set_work(&now.plain, units));
+}
+
+/* Something waits where there is more to do, and nothing where nothing waited. The objects that are there stay as many until the next pause. */
+static void call_work(void) {
+    uint64_t before = 0, after = 0, waited = 0, waits = 0;
+    uint32_t units = some_units(), more = 7, none = 7;
+    agree("count", calls_lxr.count(&now.lxr, LXR_COUNT_LIVE, &before), LXR_OK);
+    agree("count", calls_lxr.count(&now.lxr, LXR_COUNT_WAITING, &waited), LXR_OK);
+    agree("work", calls_lxr.work(&now.lxr, units, &more), calls_plain.work(&now.plain, units, &none));
+    agree("count", calls_lxr.count(&now.lxr, LXR_COUNT_LIVE, &after), LXR_OK);
+    agree("count", calls_lxr.count(&now.lxr, LXR_COUNT_WAITING, &waits), LXR_OK);
+    agree("the objects that are there", after, before);
+    agree("nothing waits in the plain heap", none, 0);
+    agree("1 or 0", more > 1, 0);
+    if (more) agree("something waits", waits > 0, 1);
+    if (!waited) agree("nothing waited", waits + more, 0);
+    if (!units) agree("all that waited waits", waits, waited);
+}
+
 /* ---- Several at once ---- */
 
 /* How many: mostly few, now and then as many as a long object has, or more. */
@@ -565,7 +596,8 @@ static const struct {
     { call_array_new, 20 },  { call_words_new, 20 },    { call_length, 10 },
     { call_array_load, 40 }, { call_array_store, 40 },  { call_array_fill, 6 },
     { call_array_copy, 12 }, { call_words_get, 20 },    { call_words_put, 20 },
-    { call_words_read, 10 }, { call_words_write, 10 },
+    { call_words_read, 10 }, { call_words_write, 10 },  { call_trim, 1 },
+    { call_work, 20 },       { call_set_work, 1 },
 };
 
 static void make_call(void) {

@@ -2,13 +2,15 @@
  * resident.c: what memory a host takes that reserves 2 GB and lives in what it needs. SPDX: MIT OR Apache-2.0
  *
  * The same program runs in two processes: in a heap of 2 GB whose room grows, and in one of twice what lives. The first takes at most 1.3 times as
- * much of the machine's memory as the second.
+ * much of the machine's memory as the second. Then a list of 150 MB is made beside one of 15 MB, and let go of, again and again: once the heap is
+ * trimmed, at least four fifths of that have gone back, and no more is left than the time before.
  */
 #define _POSIX_C_SOURCE 200809L
 #define _DEFAULT_SOURCE
 
 #include "../lxr.h"
 
+#include <limits.h>
 #include <stdio.h>
 #include <stdlib.h>
 #include <sys/resource.h>
@@ -16,7 +18,7 @@
 #include <sys/wait.h>
 #include <unistd.h>
 
-enum { LIST = 1, FIRST, LAST, NODE, LIVE = 60000, LENGTH = 10000, RINGS = 200, TWICE = 960, ALL = 65536 };
+enum { LIST = 1, FIRST, LAST, NODE, LIVE = 60000, LONG = 600000, LENGTH = 10000, RINGS = 200, TWICE = 960, ALL = 65536 };
 
 static lxr_heap heap;
 
@@ -64,10 +66,40 @@ static long kilobytes(const lxr_settings *settings) {
     return used.ru_maxrss;
 }
 
+/* The KB that this process takes of the machine's memory now. */
+static long resident(void) {
+    long all = 0, taken = 0;
+    FILE *file = fopen("/proc/self/statm", "r");
+    if (!file || fscanf(file, "%ld %ld", &all, &taken) != 2) exit(1);
+    fclose(file);
+    return taken * (sysconf(_SC_PAGESIZE) / 1024);
+}
+
+/* Whether a heap gives back what a long list took. Its tables and what reports had stay, so that the first time leaves more than there was. */
+static int gives_back(void) {
+    lxr_settings settings = LXR_SETTINGS(ALL, 1);
+    long before = LONG_MAX / 2;
+    must(lxr_open(&heap, &settings));
+    make_list(LIST, LIVE);
+    for (int times = 0; times < 4; times++) {
+        make_list(LAST, LONG);
+        long with = resident();
+        for (uint32_t at = FIRST; at <= NODE; at++) must(lxr_nil(&heap, at));
+        must(lxr_collect(&heap));
+        must(lxr_trim(&heap));
+        long without = resident();
+        printf("resident: %ld KB with a list of 150 MB, %ld KB once it is gone\n", with, without);
+        if (with - without < LONG / 5 || without > before + before / 10) return 0;
+        before = without;
+    }
+    must(lxr_close(&heap));
+    return 1;
+}
+
 int main(void) {
     lxr_settings small = LXR_SETTINGS(TWICE, 1), large = LXR_SETTINGS(ALL, 1);
     large.room = TWICE / 2;
     long of_small = kilobytes(&small), of_large = kilobytes(&large);
     printf("resident: %ld KB in a heap of 2 GB, %ld KB in one of twice what lives\n", of_large, of_small);
-    return of_large > of_small * 13 / 10;
+    return of_large > of_small * 13 / 10 || !gives_back();
 }

@@ -324,6 +324,7 @@ static void open_heap(lxr_heap *heap, uint32_t blocks, uint32_t bodies) {
     lxr_settings settings = LXR_SETTINGS(blocks, bodies);
     settings.pace = LXR_PACE_NEVER;
     settings.grow = 0;
+    settings.work = 0; /* lines are free when they are in the program, and `full` comes where it comes there */
     if (lxr_open(heap, &settings) != LXR_OK) stop(5, "lxr: out of memory");
 }
 

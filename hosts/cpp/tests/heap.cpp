@@ -305,11 +305,47 @@ void rooms() {
     CHECK(heap.room() == 200);
 }
 
+/// What is kept stays where memory goes back, and new objects have nil references and zeros.
+void trims() {
+    lxr::heap heap(200);
+    heap.trim();
+    auto kept = heap.make(1, 2);
+    kept.put(1, 7);
+    for (int made = 0; made < 20000; ++made) heap.make(2, 20).put(19, ~std::uint64_t{0});
+    heap.collect();
+    heap.trim();
+    CHECK(heap.live() == 1 && kept.get(1) == 7);
+    for (int made = 0; made < 20000; ++made) CHECK(heap.make(2, 20).get(19) == 0);
+}
+
+/// What waits for a pause is done where it is asked for, and the pause counts it.
+void work_before_a_pause() {
+    lxr::heap heap(64);
+    heap.set_pace(LXR_PACE_NEVER);
+    heap.set_work(0);
+    CHECK(throws(lxr::errc::size, [&] { heap.set_work(LXR_MOST_WORK + 1); }));
+    lxr::root list;
+    for (std::uint64_t number = 0; number < 500; ++number) list = heap.make_with({list}, {number});
+    heap.pause();
+    heap.pause();
+    list.reset();
+    heap.pause();
+    CHECK(heap.waiting() > 0 && heap.live() == 500);
+    int calls = 1;
+    while (heap.work(10)) ++calls;
+    CHECK(calls >= 50 && calls <= 51 && !heap.work(10));
+    CHECK(heap.waiting() == 0 && heap.live() == 500);
+    heap.pause();
+    CHECK(heap.dead() == 500 && heap.live() == 0);
+}
+
 }  // namespace
 
 int main() {
     try {
         rooms();
+        trims();
+        work_before_a_pause();
         lists();
         roots();
         many_roots();

@@ -403,6 +403,28 @@ impl Heap {
         done(unsafe { raw::lxr_set_grow(&mut self.handle, hundredths) })
     }
 
+    /// Gives memory of blocks that are wholly free back to the system: [`collect`](Self::collect) before it gives most. Nothing else that can be told
+    /// changes.
+    pub fn trim(&mut self) {
+        sure(unsafe { raw::lxr_trim(&mut self.handle) });
+    }
+
+    /// Sets how many units of what waits for the next plain pause are done by itself for each 64 bytes of new objects, from now on; 0 for none.
+    ///
+    /// # Errors
+    /// [`Error::Size`], above 1,000,000.
+    pub fn set_work(&mut self, units: u32) -> Result<(), Error> {
+        done(unsafe { raw::lxr_set_work(&mut self.handle, units) })
+    }
+
+    /// Does up to so many units of what waits for the next plain pause, so that less is left to it: in idle time, say. A unit lowers one count, and
+    /// reclaims the object where that falls to 0. Whether there is more to do before the pause; [`Count::Waiting`] tells how many counts wait.
+    pub fn work(&mut self, units: u32) -> bool {
+        let mut more = 0;
+        sure(unsafe { raw::lxr_work(&mut self.handle, units, &mut more) });
+        more != 0
+    }
+
     /// How many there are of what is counted.
     pub fn count(&self, what: Count) -> u64 {
         let mut number = 0;

@@ -30,13 +30,15 @@ pub struct Settings {
     pub room: u32,
     /// Hundredths more than what lives to which each collecting pause sets the room, up to 10,000; 0 for never.
     pub grow: u32,
+    /// Units of what waits for the next plain pause that are done by itself for each 64 bytes of new objects, up to 1,000,000; 0 for none.
+    pub work: u32,
 }
 
 impl Settings {
     /// So many blocks for objects, one for bodies, plain pauses by the room there is, sixteen registers, and room for all of the blocks, until
-    /// a collecting pause sets it to twice what lives.
+    /// a collecting pause sets it to twice what lives. What waits for a plain pause is done before it, in slices.
     pub const fn new(blocks: u32) -> Settings {
-        Settings { blocks, body_blocks: 1, pace: Pace::Room, registers: raw::LXR_REGISTERS, room: 0, grow: raw::LXR_GROW }
+        Settings { blocks, body_blocks: 1, pace: Pace::Room, registers: raw::LXR_REGISTERS, room: 0, grow: raw::LXR_GROW, work: raw::LXR_WORK }
     }
 
     /// So many blocks for bodies.
@@ -69,9 +71,16 @@ impl Settings {
         self
     }
 
+    /// So many units of what waits for the next plain pause, for each 64 bytes of new objects.
+    pub const fn work(mut self, units: u32) -> Settings {
+        self.work = units;
+        self
+    }
+
     pub(crate) fn raw(&self) -> raw::Settings {
-        let &Settings { blocks, body_blocks, pace, registers, room, grow } = self;
-        raw::Settings { size: size_of::<raw::Settings>() as u64, blocks, body_blocks, pace: pace.bytes(), registers, unused: 0, room, grow }
+        let &Settings { blocks, body_blocks, pace, registers, room, grow, work } = self;
+        let size = size_of::<raw::Settings>() as u64;
+        raw::Settings { size, blocks, body_blocks, pace: pace.bytes(), registers, unused: 0, room, grow, work, reserved: 0 }
     }
 }
 
@@ -123,4 +132,6 @@ pub enum Count {
     FreeBodyBytes = raw::LXR_COUNT_FREE_BODY_BYTES,
     /// Blocks of the room, as it was set last.
     Room = raw::LXR_COUNT_ROOM,
+    /// Counts that wait to be lowered by [`Heap::work`](crate::Heap::work) or the next pause.
+    Waiting = raw::LXR_COUNT_WAITING,
 }

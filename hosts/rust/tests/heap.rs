@@ -260,6 +260,25 @@ fn pauses_come_after_so_many_objects() -> Result<(), Error> {
 }
 
 #[test]
+fn memory_goes_back_and_comes_again() -> Result<(), Error> {
+    let mut heap = Heap::open(&Settings::new(200))?;
+    heap.trim();
+    heap.make(R1, 0, 2)?;
+    heap.put(R1, 1, 7)?;
+    for made in 0..20_000 {
+        heap.make(R2, 2, 20)?;
+        assert_eq!(heap.get(R2, 19)?, 0);
+        heap.put(R2, 19, u64::MAX)?;
+        if made % 5_000 == 4_999 {
+            heap.collect();
+            heap.trim();
+        }
+    }
+    assert_eq!(heap.get(R1, 1)?, 7);
+    Ok(())
+}
+
+#[test]
 fn rooms_are_set_and_grow() -> Result<(), Error> {
     let mut heap = Heap::open(&Settings::new(200).room(7))?;
     assert_eq!(heap.count(Count::Room), 7);
@@ -271,6 +290,33 @@ fn rooms_are_set_and_grow() -> Result<(), Error> {
     heap.collect();
     assert_eq!(heap.count(Count::Room), 200);
     assert_eq!(Heap::open(&Settings::new(200).grow(10_001)).err(), Some(Error::Size));
+    assert_eq!(Heap::open(&Settings::new(200).work(1_000_001)).err(), Some(Error::Size));
+    Ok(())
+}
+
+#[test]
+fn work_is_done_before_a_pause() -> Result<(), Error> {
+    let mut heap = Heap::open(&Settings::new(64).pace(Pace::Never).work(0))?;
+    assert_eq!(heap.set_work(1_000_001), Err(Error::Size));
+    heap.make(R1, 1, 1)?;
+    for number in 1..500 {
+        heap.make_with(R2, &[R1], &[number])?;
+        heap.copy(R1, R2);
+    }
+    heap.pause();
+    heap.pause();
+    heap.clear(R1);
+    heap.clear(R2);
+    heap.pause();
+    assert!(heap.count(Count::Waiting) > 0);
+    let mut calls = 1;
+    while heap.work(10) {
+        calls += 1;
+    }
+    assert!((50..=51).contains(&calls) && !heap.work(10));
+    assert_eq!((heap.count(Count::Waiting), heap.count(Count::Live)), (0, 500));
+    heap.pause();
+    assert_eq!((heap.count(Count::Dead), heap.count(Count::Live)), (500, 0));
     Ok(())
 }
 

@@ -31,43 +31,43 @@ settle_lines-requires-clause-counted c =
     counted_traced c.args.space.now c.settle_counts.new.space c.requires.space.0 c.requires.space.1 c.settle_counts.ensures c.args.ask c.args.pace c.decide_kind-kind.result c.decide_kind-kind.ensures
     c.trace_by_kind.new.space c.trace_by_kind.ensures
 
-pub sort_report-requires : goal.sort_report-requires
-sort_report-requires c =
+pub order_report-requires : goal.order_report-requires
+order_report-requires c =
     names_once c.args.space.now c.settle_counts.new.space c.requires.space.0 c.requires.space.1 c.settle_counts.ensures c.args.ask c.args.pace c.decide_kind-kind.result c.decide_kind-kind.ensures
     c.trace_by_kind.new.space c.trace_by_kind.ensures c.settle_lines.new.space c.settle_lines.ensures.states
 
 pub count_where_drained-requires : goal.count_where_drained-requires
 count_where_drained-requires c = (
   leads c.args.space.now c.settle_counts.new.space c.requires.space.0 c.requires.space.1 c.settle_counts.ensures c.args.ask c.args.pace c.decide_kind-kind.result c.decide_kind-kind.ensures
-      c.trace_by_kind.new.space c.trace_by_kind.ensures c.settle_lines.new.space c.settle_lines.ensures.states c.sort_report.new.report c.sort_report.ensures,
+      c.trace_by_kind.new.space c.trace_by_kind.ensures c.settle_lines.new.space c.settle_lines.ensures.states c.order_report.new.report c.order_report.ensures,
   at' c.args.space.now c.settle_counts.new.space c.requires.space.0 c.requires.space.1 c.settle_counts.ensures c.args.ask c.args.pace c.decide_kind-kind.result c.decide_kind-kind.ensures
       c.trace_by_kind.new.space c.trace_by_kind.ensures,
   may_count c.args.space.now c.settle_counts.new.space c.requires.space.0 c.requires.space.1 c.settle_counts.ensures c.args.ask c.args.pace c.decide_kind-kind.result c.decide_kind-kind.ensures
-      c.trace_by_kind.new.space c.trace_by_kind.ensures c.settle_lines.new.space c.settle_lines.ensures.states c.sort_report.new.report c.sort_report.ensures,
+      c.trace_by_kind.new.space c.trace_by_kind.ensures c.settle_lines.new.space c.settle_lines.ensures.states c.order_report.new.report c.order_report.ensures,
 )
 
 pub count_pause-requires-clause-number : goal.count_pause-requires-clause-number
 count_pause-requires-clause-number c =
     few_pauses c.args.space.now c.settle_counts.new.space c.requires.space.0 c.requires.space.1 c.settle_counts.ensures c.args.ask c.args.pace c.decide_kind-kind.result c.decide_kind-kind.ensures
-    c.trace_by_kind.new.space c.trace_by_kind.ensures c.settle_lines.new.space c.settle_lines.ensures.states c.sort_report.new.report c.sort_report.ensures
+    c.trace_by_kind.new.space c.trace_by_kind.ensures c.settle_lines.new.space c.settle_lines.ensures.states c.order_report.new.report c.order_report.ensures
     c.count_where_drained.new.space c.count_where_drained.ensures
 
 pub count_pause-requires-clause-tally : goal.count_pause-requires-clause-tally
 count_pause-requires-clause-tally c =
     few_tallied c.args.space.now c.settle_counts.new.space c.requires.space.0 c.requires.space.1 c.settle_counts.ensures c.args.ask c.args.pace c.decide_kind-kind.result c.decide_kind-kind.ensures
-    c.trace_by_kind.new.space c.trace_by_kind.ensures c.settle_lines.new.space c.settle_lines.ensures.states c.sort_report.new.report c.sort_report.ensures
+    c.trace_by_kind.new.space c.trace_by_kind.ensures c.settle_lines.new.space c.settle_lines.ensures.states c.order_report.new.report c.order_report.ensures
     c.count_where_drained.new.space c.count_where_drained.ensures
 
 pub returns-clause-untold : goal.returns-clause-untold
 returns-clause-untold c =
     is_untold c.args.space.now c.settle_counts.new.space c.requires.space.0 c.requires.space.1 c.settle_counts.ensures c.args.ask c.args.pace c.decide_kind-kind.result c.decide_kind-kind.ensures
-    c.trace_by_kind.new.space c.trace_by_kind.ensures c.settle_lines.new.space c.settle_lines.ensures.states c.sort_report.new.report c.sort_report.ensures
+    c.trace_by_kind.new.space c.trace_by_kind.ensures c.settle_lines.new.space c.settle_lines.ensures.states c.order_report.new.report c.order_report.ensures
     c.count_where_drained.new.space c.count_where_drained.ensures c.count_pause.new.space c.count_pause.ensures
 
 pub returns-clause-pauses : goal.returns-clause-pauses
 returns-clause-pauses c g can = (
   at' c.args.space.now c.settle_counts.new.space g can c.settle_counts.ensures c.args.ask c.args.pace c.decide_kind-kind.result c.decide_kind-kind.ensures c.trace_by_kind.new.space c.trace_by_kind.ensures,
   pause_made c.args.space.now c.settle_counts.new.space g can c.settle_counts.ensures c.args.ask c.args.pace c.decide_kind-kind.result c.decide_kind-kind.ensures
-      c.trace_by_kind.new.space c.trace_by_kind.ensures c.settle_lines.new.space c.settle_lines.ensures.states c.sort_report.new.report c.sort_report.ensures
+      c.trace_by_kind.new.space c.trace_by_kind.ensures c.settle_lines.new.space c.settle_lines.ensures.states c.order_report.new.report c.order_report.ensures
       c.count_where_drained.new.space c.count_where_drained.ensures c.count_pause.new.space c.count_pause.ensures,
 )

@@ -54,6 +54,8 @@ pub const LXR_PACE_ROOM: u64 = u64::MAX;
 
 pub const LXR_GROW: u32 = 100;
 pub const LXR_MOST_GROW: u32 = 10000;
+pub const LXR_WORK: u32 = 8;
+pub const LXR_MOST_WORK: u32 = 1000000;
 
 pub const LXR_COUNT_PAUSES: u32 = 0;
 pub const LXR_COUNT_PROMOTED: u32 = 1;
@@ -65,6 +67,7 @@ pub const LXR_COUNT_FREE_BLOCKS: u32 = 6;
 pub const LXR_COUNT_FREE_BODY_BYTES: u32 = 7;
 pub const LXR_COUNT_LAST_KIND: u32 = 11;
 pub const LXR_COUNT_ROOM: u32 = 13;
+pub const LXR_COUNT_WAITING: u32 = 14;
 
 pub const LXR_OP_NEW: u32 = 0;
 pub const LXR_OP_LOAD: u32 = 1;
@@ -103,6 +106,8 @@ pub struct Settings {
     pub unused: u32,
     pub room: u32,
     pub grow: u32,
+    pub work: u32,
+    pub reserved: u32,
 }
 
 /// What `lxr_operation` is.
@@ -160,6 +165,11 @@ extern "C" {
     pub fn lxr_set_pace(heap: *mut Handle, bytes: u64) -> Code;
     pub fn lxr_set_room(heap: *mut Handle, blocks: u32) -> Code;
     pub fn lxr_set_grow(heap: *mut Handle, hundredths: u32) -> Code;
+    pub fn lxr_trim(heap: *mut Handle) -> Code;
+    pub fn lxr_trim_next(heap: *mut Handle, from: u32, block: *mut u32) -> Code;
+    pub fn lxr_first_word(heap: *mut Handle, place: *mut *const u64) -> Code;
+    pub fn lxr_set_work(heap: *mut Handle, units: u32) -> Code;
+    pub fn lxr_work(heap: *mut Handle, units: u32, more: *mut u32) -> Code;
     pub fn lxr_count(heap: *const Handle, what: u32, number: *mut u64) -> Code;
 }
 

@@ -1,4 +1,4 @@
-use Rattle.std.proofs.Common.{◌≡◌, ◌+◌, ◌-◌, ap, subst, sym}
+use Rattle.std.proofs.Common.{subst, sym}
 use Rattle.lxr_c_base.specs.declared.codes.Code.TheVariants as code
 use Rattle.lxr_c_arrays.specs.declared.side.Side.TheVariants as side
 use Rattle.lxr_c_arrays.specs.Running.{InTurn}

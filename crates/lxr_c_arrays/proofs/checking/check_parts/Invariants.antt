@@ -1,6 +1,6 @@
 use Rattle.lxr_c_base.specs.declared.codes.Code.TheVariants as code
 use Rattle.lxr_c_heap.specs.Hosting.{IsServing}
-use Rattle.lxr_c_arrays.specs.Sides.{check_steps, parts_between}
+use Rattle.lxr_c_arrays.specs.Sides.{check_steps}
 use Rattle.lxr_c_arrays.specs.Running.{InTurn, SameRegisters, in_turn}
 use Rattle.lxr_c_arrays.proofs.checking.check_parts.Given as goal
 

@@ -1,4 +1,4 @@
-use Rattle.std.proofs.Common.{◌++◌, ◌∷◌, [], subst}
+use Rattle.std.proofs.Common.{subst}
 use Rattle.lxr_c_arrays.specs.Plans.{check_copy, copy_steps}
 use Rattle.lxr_c_arrays.specs.Running.{in_turn}
 use Rattle.lxr_c_arrays.specs.Running.{InTurn}

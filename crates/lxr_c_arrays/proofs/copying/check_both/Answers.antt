@@ -1,4 +1,4 @@
-use Rattle.std.proofs.Common.{◌++◌, ◌∷◌, [], subst}
+use Rattle.std.proofs.Common.{subst}
 use Rattle.lxr_c_arrays.specs.Sides.{checks}
 use Rattle.lxr_c_arrays.specs.Running.{InTurn}
 use Rattle.lxr_c_arrays.proofs.RunLemmas.{same_on, turn_on, turn_stop}

@@ -1,7 +1,7 @@
-use Rattle.std.proofs.Common.{◌≡◌, ◌∙◌, ap, refl, sym, subst, Some, None}
+use Rattle.std.proofs.Common.{◌∙◌, refl, sym, subst}
 use Rattle.lxr_large_model.specs.History.{large_state}
 use Rattle.lxr_c_base.specs.declared.codes.Code.TheVariants as code
-use Rattle.lxr_c_heap.specs.Hosting.{all_registers_in, own_in}
+use Rattle.lxr_c_heap.specs.Hosting.{all_registers_in}
 use Rattle.lxr_c_arrays.specs.Plans.{IsOwn, copy_by, copying, copying_of}
 use Rattle.lxr_c_arrays.specs.Running.{Carries}
 use Rattle.lxr_c_arrays.proofs.PlanLemmas.{carried_not, carried_with, own_there, pair_there}

@@ -1,4 +1,4 @@
-use Rattle.std.proofs.Common.{◌+◌, ◌++◌, subst}
+use Rattle.std.proofs.Common.{◌+◌, subst}
 use Rattle.std.specs.Prelude.{nat_lt}
 use Rattle.lxr_c_arrays.specs.Plans.{copy_step, enters}
 use Rattle.lxr_c_arrays.specs.Running.{InTurn}

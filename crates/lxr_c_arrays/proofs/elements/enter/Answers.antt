@@ -1,8 +1,8 @@
-use Rattle.std.proofs.Common.{arith, subst, sym}
+use Rattle.std.proofs.Common.{subst, sym}
 use Rattle.lxr_c_base.specs.declared.codes.Code.TheVariants as code
 use Rattle.lxr_c_heap.specs.Hosting.{all_registers_in}
 use Rattle.lxr_c_arrays.specs.Running.{InTurn}
-use Rattle.lxr_c_arrays.specs.Sides.{HasIndex, IsSide, enter_steps}
+use Rattle.lxr_c_arrays.specs.Sides.{IsSide, enter_steps}
 use Rattle.lxr_c_arrays.proofs.RunLemmas.{same_none, turn_none}
 use Rattle.lxr_c_arrays.proofs.elements.enter.Goals as goal
 

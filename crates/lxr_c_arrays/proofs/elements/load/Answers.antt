@@ -7,19 +7,19 @@ use Rattle.lxr_c_many.proofs.CallLemmas.{does_done}
 use Rattle.lxr_c_arrays.specs.Plans.{IsPair, LoadsElement, pair_of}
 use Rattle.lxr_c_arrays.proofs.elements.load.Goals as goal
 
-pub load_at-requires-clause-serving : goal.load_at-requires-clause-serving
-load_at-requires-clause-serving c = c.args.handle.now.serving c.lend.result.now c.lend.ensures.heap
+pub reach-requires-clause-serving : goal.reach-requires-clause-serving
+reach-requires-clause-serving c = c.args.handle.now.serving c.lend.result.now c.lend.ensures.heap
 
-pub load_at-requires-clause-pair : goal.load_at-requires-clause-pair
-load_at-requires-clause-pair c = subst (λ n. IsPair n c.in_ok-pair.pair) (c.registers.ensures.counted ∙ ap registers_kept c.lend.ensures.heap) c.in_ok-pair.ensures.named
+pub reach-requires-clause-pair : goal.reach-requires-clause-pair
+reach-requires-clause-pair c = subst (λ n. IsPair n c.in_ok-pair.pair) (c.registers.ensures.counted ∙ ap registers_kept c.lend.ensures.heap) c.in_ok-pair.ensures.named
 
 pub invariant_of-handle-clause-counted : goal.invariant_of-handle-clause-counted
-invariant_of-handle-clause-counted c = still_counted c.args.handle.now.block.value c.lend.result.now c.load_at.new.heap _ c.args.handle.now.counted c.lend.ensures.heap c.load_at.ensures.registers
+invariant_of-handle-clause-counted c = still_counted c.args.handle.now.block.value c.lend.result.now c.reach.new.heap _ c.args.handle.now.counted c.lend.ensures.heap c.reach.ensures.registers
 
 pub invariant_of-handle-clause-serving : goal.invariant_of-handle-clause-serving
-invariant_of-handle-clause-serving c = λ x is. subst IsServing (same_Some c.load_at.new.heap x is) c.load_at.ensures.serving
+invariant_of-handle-clause-serving c = λ x is. subst IsServing (same_Some c.reach.new.heap x is) c.reach.ensures.serving
 
 pub returns : goal.returns
 returns c =
-    does_done (LoadsElement c.args.index) c.args.handle.now.block.value (Some c.load_at.new.heap) c.lend.result.now c.load_at.new.heap (pair_of (registers_kept c.args.handle.now.block.value) c.args.base c.args.dest) c.in_ok-pair.pair c.load_at.result
-    c.lend.ensures.heap refl (sym (ap (λ n. pair_of n c.args.base c.args.dest) c.registers.ensures.counted) ∙ sym c.pair_of.ensures.asked ∙ c.in_ok-pair.was) c.load_at.ensures.loads
+    does_done (LoadsElement c.args.index) c.args.handle.now.block.value (Some c.reach.new.heap) c.lend.result.now c.reach.new.heap (pair_of (registers_kept c.args.handle.now.block.value) c.args.base c.args.dest) c.in_ok-pair.pair c.reach.result
+    c.lend.ensures.heap refl (sym (ap (λ n. pair_of n c.args.base c.args.dest) c.registers.ensures.counted) ∙ sym c.pair_of.ensures.asked ∙ c.in_ok-pair.was) c.reach.ensures.reaches

@@ -1,4 +1,4 @@
-use Rattle.std.proofs.Common.{◌++◌, ◌∷◌, [], subst}
+use Rattle.std.proofs.Common.{◌∷◌, [], subst}
 use Rattle.lxr_c_arrays.specs.Operations.{store_of}
 use Rattle.lxr_c_arrays.specs.Sides.{entering, holder, index_at}
 use Rattle.lxr_c_arrays.specs.Running.{InTurn}

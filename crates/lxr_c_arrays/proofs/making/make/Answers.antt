@@ -1,4 +1,4 @@
-use Rattle.std.proofs.Common.{◌≡◌, [], ◌∷◌, ap, arith, subst, sym, true}
+use Rattle.std.proofs.Common.{[], ◌∷◌, arith, subst, sym}
 use Rattle.std.proofs.lemmas.Bool.{le-leb}
 use Rattle.std.specs.Prelude.{Ok, if◌then◌else◌}
 use Rattle.lxr_c_heap.specs.Hosting.{own_in}

@@ -1,6 +1,5 @@
 use Rattle.std.proofs.Common.{◌∙◌, refl, sym, subst, arith}
 use Rattle.lxr_c_base.specs.declared.codes.Code.TheVariants as code
-use Rattle.lxr_c_heap.specs.Hosting.{all_registers_in}
 use Rattle.lxr_c_heap.proofs.RegisterLemmas.{named_few}
 use Rattle.lxr_c_arrays.specs.Plans.{IsOwn, making, parts_plan}
 use Rattle.lxr_c_arrays.specs.Running.{Carries}

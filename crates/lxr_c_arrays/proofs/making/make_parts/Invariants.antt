@@ -1,6 +1,6 @@
 use Rattle.lxr_c_base.specs.declared.codes.Code.TheVariants as code
 use Rattle.lxr_c_heap.specs.Hosting.{IsServing}
-use Rattle.lxr_c_arrays.specs.Plans.{part_steps, parts_of}
+use Rattle.lxr_c_arrays.specs.Plans.{part_steps}
 use Rattle.lxr_c_arrays.specs.Running.{InTurn, SameRegisters, in_turn}
 use Rattle.lxr_c_arrays.proofs.making.make_parts.Given as goal
 

@@ -1,4 +1,4 @@
-use Rattle.std.proofs.Common.{◌++◌, ◌∷◌, [], subst}
+use Rattle.std.proofs.Common.{◌∷◌, [], subst}
 use Rattle.lxr_c_arrays.specs.Operations.{new_of, put_of}
 use Rattle.lxr_c_arrays.specs.Plans.{part_steps, parts_of}
 use Rattle.lxr_c_arrays.specs.Running.{in_turn}

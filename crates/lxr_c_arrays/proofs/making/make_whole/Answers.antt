@@ -1,4 +1,4 @@
-use Rattle.std.proofs.Common.{◌++◌, ◌∷◌, [], subst}
+use Rattle.std.proofs.Common.{◌∷◌, [], subst}
 use Rattle.lxr_c_arrays.specs.Operations.{move_of}
 use Rattle.lxr_c_arrays.specs.Plans.{root_steps}
 use Rattle.lxr_c_arrays.specs.Running.{InTurn}

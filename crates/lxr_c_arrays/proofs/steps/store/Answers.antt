@@ -1,15 +1,14 @@
-use Rattle.std.proofs.Common.{sym, subst, [], ◌∷◌}
-use Rattle.lxr_graph.specs.declared.Op.TheVariants as op
-use Rattle.lxr_large_model.specs.declared.LargeOp.TheVariants as large_op
+use Rattle.std.proofs.Common.{subst, [], ◌∷◌}
 use Rattle.lxr_c_arrays.specs.Operations.{store_of}
 use Rattle.lxr_c_arrays.specs.Running.{InTurn}
-use Rattle.lxr_c_arrays.proofs.StepLemmas.{stored_in_turn, stored_same}
+use Rattle.lxr_c_arrays.proofs.RunLemmas.{same_on}
 use Rattle.lxr_c_arrays.proofs.steps.store.Goals as goal
 
+pub returns-then-try_store-clause-runs : goal.returns-then-try_store-clause-runs
+returns-then-try_store-clause-runs c = c.try_store.ensures.runs c.if-try_store.true
+
 pub returns-clause-runs : goal.returns-clause-runs
-returns-clause-runs c =
-    subst (InTurn c.args.heap.now (store_of c.args.base c.args.index c.args.source ∷ []) c.store.new.self) (sym c.code_of.ensures)
-    (stored_in_turn c.args.heap.now c.store.new.self (large_op.Small (op.Store c.args.base c.args.index c.args.source)) c.store.result c.store.ensures.stores)
+returns-clause-runs c = subst (λ x. InTurn x (store_of c.args.base c.args.index c.args.source ∷ []) c.store_aside.new.heap c.store_aside.result) (c.try_store.ensures.unchanged c.if-try_store.false) c.store_aside.ensures.runs
 
 pub returns-clause-same : goal.returns-clause-same
-returns-clause-same c = stored_same c.args.heap.now c.store.new.self (large_op.Small (op.Store c.args.base c.args.index c.args.source)) c.store.result c.requires.serving.holds c.store.ensures.stores
+returns-clause-same c = same_on c.args.heap.now c.try_store.new.heap c.store_aside.new.heap c.try_store.ensures.same c.store_aside.ensures.same

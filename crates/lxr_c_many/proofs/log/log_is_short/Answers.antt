@@ -25,7 +25,7 @@ at-place-requires c =
 
 pub count_to_record-requires-clause-space : goal.count_to_record-requires-clause-space
 count_to_record-requires-clause-space c =
-    subst IsSpace (sym c.space-space.ensures) (∥∥₁_elim c.requires.there (hlevel (le_prop, ℕ_set)) (λ of. of.1.rests.safepoint.holds.space))
+    subst IsSpace (sym c.space-space.ensures) (∥∥₁_elim c.requires.there (hlevel (le_prop, ℕ_set)) (λ of. of.1.stands.0.safepoint.holds.space))
 
 -- the place that the base register has
 placed : (s x : Space) (i base : ℕ) (place : Place) → s ≡ x → i ≡ base → slice_get s.registers.items i ≡ Some place → slice_get x.registers.items base ≡ Some place

@@ -6,7 +6,7 @@ use Rattle.lxr_large_model.specs.declared.LargeOp.TheVariants as large_op
 use Rattle.lxr_large_model.specs.declared.LargeReply.TheVariants as large_reply
 use Rattle.lxr_large_model.specs.State.{handle}
 use Rattle.lxr_heap.specs.Acting.{Acts, HasRun}
-use Rattle.lxr_heap.specs.Holding.{abstract_after}
+use Rattle.lxr_heap.specs.Holding.{abstract_of}
 use Rattle.lxr_heap.proofs.ActingLemmas.{next_has_none, no_place_big, refusal, replied_big}
 use Rattle.lxr_heap.proofs.HeapLemmas.{may_operate, one_thread, standing}
 use Rattle.lxr_heap.proofs.acting.make_large.Goals as goal
@@ -15,7 +15,7 @@ pub serve-requires-clause-stands : goal.serve-requires-clause-stands
 serve-requires-clause-stands c =
     let (h, is) = c.requires.holds in
     let x = c.args.heap.now in
-    (abstract_after h is.at, servable x.space (abstract_after h is.at) 1 (x.made + 1) (may_operate x h is))
+    (abstract_of x h is.at, servable x.space (abstract_of x h is.at) 1 (x.made + 1) (may_operate x h is))
 
 pub serve-requires-clause-thread : goal.serve-requires-clause-thread
 serve-requires-clause-thread c = let (h, is) = c.requires.holds in let one = one_thread c.args.heap.now h is in (omega arith, omega (arith, one))
@@ -38,7 +38,7 @@ returns-in-Some-serve c = λ h is.
     let run : HasRun x.bodies c.args.blocks = (c.in-Some.first, c.in-Some.ensures.run) in
     replied_big x h is c.serve.new.space c.place.new.self n c.args.dest c.args.blocks c.in-Some.first c.requires.dest c.requires.blocks c.in-Some.ensures.run c.place.ensures
     (λ none. elim none [ inl full ↦ served.room full | inr gone ↦ gone run ]) refl
-    (λ at stands. make_done x.space c.serve.new.space (abstract_after h at) 1 (x.made + 1) c.args.dest handle c.in-Some-serve.field-0 (may_operate x h (standing x h is at stands)) served)
+    (λ at stands. make_done x.space c.serve.new.space (abstract_of x h at) 1 (x.made + 1) c.args.dest handle c.in-Some-serve.field-0 (may_operate x h (standing x h is at stands)) served)
 
 pub returns-in_default : goal.returns-in_default
 returns-in_default c = λ h is.

@@ -4,7 +4,8 @@ use Rattle.lxr_large_model.specs.Renewing.{AreCounted}
 use Rattle.lxr_large_bodies.specs.Bodies.{AreAmong, Held}
 use Rattle.lxr_heap.specs.Holding.{abstract_after}
 use Rattle.lxr_heap.specs.Renewing.{RenewsHeap}
-use Rattle.lxr_heap.proofs.RenewingLemmas.{among, counted, counted_few, counted_many, may_renew, ns, renews_heap}
+use Rattle.lxr_heap.proofs.CallLemmas.{rests_whole}
+use Rattle.lxr_heap.proofs.RenewingLemmas.{among, counted, counted_few, counted_many, f as fresh_then, may_renew, ns, renews_heap}
 use Rattle.lxr_heap.proofs.renewing.renew.Goals as goal
 
 pub renew-requires-clause-counts : goal.renew-requires-clause-counts
@@ -26,7 +27,7 @@ renew_names-requires c =
     let tells = c.tell.ensures h is in
     let x = c.args.heap.now in
     let y = c.tell.new.heap in
-    (abstract_after h tells.holds.at, ns x y h c.requires.fresh tells, may_renew x y h c.requires.fresh tells tells.holds.at tells.holds.rests)
+    (abstract_after h tells.holds.at, ns x y h c.requires.fresh tells, may_renew x y h c.requires.fresh tells tells.holds.at (rests_whole y h tells.holds (fresh_then x y h c.requires.fresh tells)))
 
 pub overflow_cast-left : goal.overflow_cast-left
 overflow_cast-left c =
@@ -34,7 +35,7 @@ overflow_cast-left c =
     let tells = c.tell.ensures h is in
     let x = c.args.heap.now in
     let y = c.tell.new.heap in
-    let r = c.renew_names.ensures (abstract_after h tells.holds.at) (ns x y h c.requires.fresh tells) (may_renew x y h c.requires.fresh tells tells.holds.at tells.holds.rests) in
+    let r = c.renew_names.ensures (abstract_after h tells.holds.at) (ns x y h c.requires.fresh tells) (may_renew x y h c.requires.fresh tells tells.holds.at (rests_whole y h tells.holds (fresh_then x y h c.requires.fresh tells))) in
     let long = c.len.ensures in
     let same = ap (λ (s : Space). length s.report.told.items) r.space in
     let few = counted_few x y h c.requires.fresh tells in
@@ -46,7 +47,7 @@ overflow_sub-left c =
     let tells = c.tell.ensures h is in
     let x = c.args.heap.now in
     let y = c.tell.new.heap in
-    let r = c.renew_names.ensures (abstract_after h tells.holds.at) (ns x y h c.requires.fresh tells) (may_renew x y h c.requires.fresh tells tells.holds.at tells.holds.rests) in
+    let r = c.renew_names.ensures (abstract_after h tells.holds.at) (ns x y h c.requires.fresh tells) (may_renew x y h c.requires.fresh tells tells.holds.at (rests_whole y h tells.holds (fresh_then x y h c.requires.fresh tells))) in
     let long = c.len.ensures in
     let same = ap (λ (s : Space). length s.report.told.items) r.space in
     let many = counted_many x y h c.requires.fresh tells in
@@ -57,7 +58,7 @@ returns c = λ h is.
     let tells = c.tell.ensures h is in
     let x = c.args.heap.now in
     let y = c.tell.new.heap in
-    let r = c.renew_names.ensures (abstract_after h tells.holds.at) (ns x y h c.requires.fresh tells) (may_renew x y h c.requires.fresh tells tells.holds.at tells.holds.rests) in
+    let r = c.renew_names.ensures (abstract_after h tells.holds.at) (ns x y h c.requires.fresh tells) (may_renew x y h c.requires.fresh tells tells.holds.at (rests_whole y h tells.holds (fresh_then x y h c.requires.fresh tells))) in
     let left = c.len.result - 1 in
     let long = c.len.ensures in
     let same = ap (λ (s : Space). length s.report.told.items) r.space in

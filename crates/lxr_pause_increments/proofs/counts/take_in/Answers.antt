@@ -1,5 +1,5 @@
 use Rattle.std.proofs.Common.{◌<◌, sym, ap, subst, ◌∙◌, length}
-use Rattle.lxr_base.specs.Roomy.{pushed}
+use Rattle.lxr_graph.specs.Listing.{with_name}
 use Rattle.lxr_image.specs.declared.space.Space.{Space}
 use Rattle.lxr_pause_increments.proofs.TakenLemmas.{promoted_space}
 use Rattle.lxr_pause_increments.proofs.counts.take_in.Goals as goal
@@ -19,7 +19,7 @@ push-requires-2 c =
 pub returns-clause-takes : goal.returns-clause-takes
 returns-clause-takes c = λ n shape h e.
     let middle = c.promote_within-now.new.space in
-    let promoted = c.push.ensures ∙ ap (pushed middle.report.promoted) e in
+    let promoted = c.push.ensures ∙ ap (with_name middle.report.promoted) e in
     record {
       promoted = middle;
       promotes = c.promote_within-now.ensures.promotes n shape h;

@@ -7,10 +7,10 @@ use Rattle.lxr_pause_increments.proofs.order.raise_registers.Goals as goal
 pub loop-register-init : goal.loop-register-init
 loop-register-init c = record {
   settles = λ m at st roots.
-      let next = c.next_register-register.ensures in
-      (st, refl, registers_passed c.args.space.now m at st 0 c.next_register-register.result next.range.0 next.range.1 next.now next.last roots);
+      let next = c.next_changed-register.ensures in
+      (st, refl, registers_passed c.args.space.now m at st 0 c.next_changed-register.result next.range.0 next.range.1 next.passed roots);
   as_many = refl;
-  within = c.next_register-register.ensures.range.1;
+  within = c.next_changed-register.ensures.range.1;
   leaves = leaves_none c.args.space.now;
   short = c.requires.short;
 }
@@ -23,8 +23,8 @@ raise_register-requires-clause-may c =
     let e = c.len.ensures in
     (r.0, r.1, x.0, omega (arith, t, e), x.2)
 
-pub next_register-register-requires-in-loop-register-clause-as_many : goal.next_register-register-requires-in-loop-register-clause-as_many
-next_register-register-requires-in-loop-register-clause-as_many c =
+pub next_changed-register-requires-in-loop-register-clause-as_many : goal.next_changed-register-requires-in-loop-register-clause-as_many
+next_changed-register-requires-in-loop-register-clause-as_many c =
     let r = c.requires.may in
     let x = c.loop-register.invariant.settles r.0 r.1 r.2 r.3 in
     let t = c.loop-register-test.true in
@@ -33,8 +33,8 @@ next_register-register-requires-in-loop-register-clause-as_many c =
     let many = y.2.settled.accounted.incrementing.as_many in
     omega (arith, many)
 
-pub next_register-register-requires-in-loop-register-clause-from : goal.next_register-register-requires-in-loop-register-clause-from
-next_register-register-requires-in-loop-register-clause-from c =
+pub next_changed-register-requires-in-loop-register-clause-from : goal.next_changed-register-requires-in-loop-register-clause-from
+next_changed-register-requires-in-loop-register-clause-from c =
     let r = c.requires.may in
     let x = c.loop-register.invariant.settles r.0 r.1 r.2 r.3 in
     let t = c.loop-register-test.true in
@@ -48,12 +48,12 @@ loop-register-smaller c =
     let t = c.loop-register-test.true in
     let e = c.len.ensures in
     let many = c.loop-register.invariant.as_many in
-    let later = c.next_register-register-in-loop-register.ensures.range.0 in
+    let later = c.next_changed-register-in-loop-register.ensures.range.0 in
     omega (arith, t, e, many, later)
 
 pub loop-register-preserved : goal.loop-register-preserved
 loop-register-preserved c =
-    let next = c.next_register-register-in-loop-register.ensures in
+    let next = c.next_changed-register-in-loop-register.ensures in
     let t = c.loop-register-test.true in
     let e = c.len.ensures in
     let r = c.requires.may in
@@ -65,7 +65,7 @@ loop-register-preserved c =
       settles = λ m at st roots.
           let x = before.settles m at st roots in
           let y = c.raise_register.ensures.settles m at x.0 (omega (arith, t, e)) x.2 in
-          (y.0, y.1 ∙ x.1, registers_passed c.raise_register.new.space m at y.0 (c.loop-register.register + 1) c.next_register-register-in-loop-register.result next.range.0 next.range.1 next.now next.last y.2);
+          (y.0, y.1 ∙ x.1, registers_passed c.raise_register.new.space m at y.0 (c.loop-register.register + 1) c.next_changed-register-in-loop-register.result next.range.0 next.range.1 next.passed y.2);
       as_many = same ∙ before.as_many;
       within = let high = next.range.1 in let many = before.as_many in omega (arith, high, same, many);
       leaves = leaves_both c.args.space.now c.loop-register.space c.raise_register.new.space before.leaves c.raise_register.ensures.leaves;

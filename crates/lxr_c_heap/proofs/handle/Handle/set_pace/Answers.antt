@@ -1,8 +1,7 @@
 use Rattle.std.proofs.Common.{◌≡◌, ap, Some, subst}
 use Rattle.std.proofs.lemmas.Option.{same_Some}
 use Rattle.lxr_c_heap.specs.Hosting.{IsServing, registers_in}
-use Rattle.lxr_c_heap.specs.Pacing.{due_after}
-use Rattle.lxr_c_heap.specs.Rooms.{free_in}
+use Rattle.lxr_c_heap.specs.Working.{with_pace}
 use Rattle.lxr_c_heap.proofs.RegisterLemmas.{still_counted}
 use Rattle.lxr_c_heap.proofs.CallLemmas.{sets_done}
 use Rattle.lxr_c_heap.proofs.handle.Handle.set_pace.Goals as goal
@@ -20,5 +19,5 @@ invariant_of-self-clause-serving c = λ x is. subst IsServing (same_Some c.set_p
 pub returns : goal.returns
 returns c =
     let x = c.lend.result.now in
-    let set = subst (λ p. c.set_pace.new.self ≡ record x { pace = p; limit = due_after p x.room (free_in x.heap) }) c.of.ensures c.set_pace.ensures.set in
+    let set = subst (λ p. c.set_pace.new.self ≡ with_pace p x) c.of.ensures c.set_pace.ensures.set in
     sets_done c.args.self.now.block.value (Some c.set_pace.new.self) x c.args.bytes c.lend.ensures.heap (ap Some set)

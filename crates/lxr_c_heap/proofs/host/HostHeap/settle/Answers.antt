@@ -1,7 +1,7 @@
 use Rattle.std.proofs.Common.{true, refl, inl, inr}
 use Rattle.std.proofs.lemmas.Bool.{iff_false}
 use Rattle.lxr_c_heap.specs.Hosting.{behind_pause}
-use Rattle.lxr_c_heap.proofs.RoomLemmas.{early_room, paused_fresh, paused_none, paused_some, renewed_room}
+use Rattle.lxr_c_heap.proofs.RoomLemmas.{early_room, paused_fresh, paused_none, paused_some, paused_timed, renewed_room}
 use Rattle.lxr_c_heap.proofs.host.HostHeap.settle.Goals as goal
 
 pub returns-then-not-is_at_end-clause-settled : goal.returns-then-not-is_at_end-clause-settled
@@ -22,4 +22,5 @@ returns-clause-settled c = λ h is.
 pub returns-clause-room : goal.returns-clause-room
 returns-clause-room c =
     renewed_room c.pause.new.self c.renew.new.self (paused_some c.args.self.now c.pause.new.self true c.requires.serving.holds c.pause.ensures)
-    (paused_none c.args.self.now c.pause.new.self true c.requires.serving.holds c.pause.ensures) c.renew.ensures
+    (paused_none c.args.self.now c.pause.new.self true c.requires.serving.holds c.pause.ensures)
+    (paused_timed c.args.self.now c.pause.new.self true c.requires.serving.holds c.requires.serving.timed c.pause.ensures) c.renew.ensures

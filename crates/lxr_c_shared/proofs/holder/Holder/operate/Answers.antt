@@ -1,17 +1,8 @@
-use Rattle.std.proofs.Common.{◌∙◌, ap, subst, sym}
-use Rattle.std.specs.Prelude.{Some}
+use Rattle.std.proofs.Common.{refl, Some}
 use Rattle.lxr_c_base.specs.declared.codes.Code.TheVariants as code
 use Rattle.lxr_c_shared.specs.Passing.{Operates, only}
-use Rattle.lxr_c_shared.specs.Holding.{At, held_of}
-use Rattle.lxr_c_shared.proofs.HolderLemmas.{at_none, at_some}
+use Rattle.lxr_c_shared.proofs.HolderLemmas.{at_some}
 use Rattle.lxr_c_shared.proofs.holder.Holder.operate.Goals as goal
 
-pub returns-in_default : goal.returns-in_default
-returns-in_default c =
-    subst (At (only code.NoHeap) (Operates c.args.request) c.args.self.now.held.value c.take.new.self.held.value) (sym c.only.ensures)
-    (at_none (only code.NoHeap) (Operates c.args.request) c.args.self.now.held.value c.take.new.self.held.value (c.take.ensures.found ∙ ap held_of c.in_default.is) c.take.ensures.emptied)
-
 pub returns : goal.returns
-returns c =
-    at_some (only code.NoHeap) (Operates c.args.request) c.args.self.now.held.value c.put.new.self.held.value c.deref_mut.result.now c.operate-told.new.self c.operate-told.result
-    (c.in-Some.ensures.found ∙ ap Some (sym c.deref_mut.ensures.value)) c.put.ensures c.operate-told.ensures
+returns c = at_some (only code.NoHeap) (Operates c.args.request) c.args.self.now.held.value (Some c.operate.new.self) c.lend.result.now c.operate.new.self c.operate.result c.lend.ensures.held refl c.operate.ensures

@@ -1,34 +1,33 @@
 use Rattle.std.proofs.Common.{◌≡◌, ◌∙◌, ap, List, length, arith, map, filter, true, false}
 use Rattle.std.proofs.lemmas.List.{length-map}
-use Rattle.lxr_layout.specs.declared.Name.{Name}
 use Rattle.lxr_graph.specs.History.{report_of}
 use Rattle.lxr_large_bodies.specs.declared.entries.Entry.{Entry}
 use Rattle.lxr_large_bodies.specs.Bodies.{Held, left_by}
 use Rattle.lxr_large_bodies.specs.Entries.{body_at, is_settled, settled_where}
 use Rattle.lxr_large_bodies.proofs.Sorted.{sorted_where}
-use Rattle.lxr_large_bodies.proofs.Views.{entries_left, left_are, left_view, settles, written_back}
+use Rattle.lxr_large_bodies.proofs.Views.{entries_left, left_are, left_view, settled_moved, settles, written_back}
 use Rattle.lxr_large_bodies.proofs.bodies.Bodies.after_pause.Goals as goal
 
 pub settle-requires-2 : goal.settle-requires-2
 settle-requires-2 c =
     let r = report_of c.args.report.now in
-    let one = settles r.promoted c.as_slice.result.now _ c.self.inside.entries.items c.deref_mut.result.now c.settle.new.entries c.deref_mut-2.result.now _ _ c.deref_mut.ensures.value c.deref_mut.ensures.len c.as_slice.ensures c.settle.ensures c.deref_mut-2.ensures.value in
+    let one = settles r.promoted c.found.result.now _ c.self.inside.entries.items c.deref_mut.result.now c.settle.new.entries c.deref_mut-2.result.now _ _ c.deref_mut.ensures.value c.deref_mut.ensures.len c.found.ensures c.settle.ensures c.deref_mut-2.ensures.value in
     rw one.are (sorted_where r.promoted true c.self.inside.entries.items c.self.invariant.sorted)
 
 pub settle-requires-3 : goal.settle-requires-3
 settle-requires-3 c =
     let r = report_of c.args.report.now in
-    let one = settles r.promoted c.as_slice.result.now _ c.self.inside.entries.items c.deref_mut.result.now c.settle.new.entries c.deref_mut-2.result.now _ _ c.deref_mut.ensures.value c.deref_mut.ensures.len c.as_slice.ensures c.settle.ensures c.deref_mut-2.ensures.value in
-    let two = settles r.dead c.as_slice-2.result.now _ (map (settled_where r.promoted true) c.self.inside.entries.items) c.deref_mut-2.result.now c.settle-2.new.entries c.deref_mut-3.result.now _ _ one.are one.as_many c.as_slice-2.ensures c.settle-2.ensures c.deref_mut-3.ensures.value in
+    let one = settles r.promoted c.found.result.now _ c.self.inside.entries.items c.deref_mut.result.now c.settle.new.entries c.deref_mut-2.result.now _ _ c.deref_mut.ensures.value c.deref_mut.ensures.len c.found.ensures c.settle.ensures c.deref_mut-2.ensures.value in
+    let two = settles r.dead c.found-2.result.now _ (map (settled_where r.promoted true) c.self.inside.entries.items) c.deref_mut-2.result.now c.settle-2.new.entries c.deref_mut-3.result.now _ _ one.are one.as_many c.found-2.ensures c.settle-2.ensures c.deref_mut-3.ensures.value in
     rw two.are (sorted_where r.dead false _ (sorted_where r.promoted true c.self.inside.entries.items c.self.invariant.sorted))
 
 pub take_all-requires-clause-sorted : goal.take_all-requires-clause-sorted
 take_all-requires-clause-sorted c =
     let r = report_of c.args.report.now in
-    let one = settles r.promoted c.as_slice.result.now _ c.self.inside.entries.items c.deref_mut.result.now c.settle.new.entries c.deref_mut-2.result.now _ _ c.deref_mut.ensures.value c.deref_mut.ensures.len c.as_slice.ensures c.settle.ensures c.deref_mut-2.ensures.value in
-    let two = settles r.dead c.as_slice-2.result.now _ (map (settled_where r.promoted true) c.self.inside.entries.items) c.deref_mut-2.result.now c.settle-2.new.entries c.deref_mut-3.result.now _ _ one.are one.as_many c.as_slice-2.ensures c.settle-2.ensures c.deref_mut-3.ensures.value in
-    let three : map (settled_where c.as_slice-3.result.now false) c.deref_mut-3.result.now ≡ map (settled_where r.swept false) (map (settled_where r.dead false) (map (settled_where r.promoted true) c.self.inside.entries.items)) =
-    ap (λ (es : List Entry). map (settled_where c.as_slice-3.result.now false) es) two.are ∙ ap (λ (ns : List Name). map (settled_where ns false) (map (settled_where r.dead false) (map (settled_where r.promoted true) c.self.inside.entries.items))) c.as_slice-3.ensures in
+    let one = settles r.promoted c.found.result.now _ c.self.inside.entries.items c.deref_mut.result.now c.settle.new.entries c.deref_mut-2.result.now _ _ c.deref_mut.ensures.value c.deref_mut.ensures.len c.found.ensures c.settle.ensures c.deref_mut-2.ensures.value in
+    let two = settles r.dead c.found-2.result.now _ (map (settled_where r.promoted true) c.self.inside.entries.items) c.deref_mut-2.result.now c.settle-2.new.entries c.deref_mut-3.result.now _ _ one.are one.as_many c.found-2.ensures c.settle-2.ensures c.deref_mut-3.ensures.value in
+    let three : map (settled_where c.found-3.result.now false) c.deref_mut-3.result.now ≡ map (settled_where r.swept false) (map (settled_where r.dead false) (map (settled_where r.promoted true) c.self.inside.entries.items)) =
+    ap (λ (es : List Entry). map (settled_where c.found-3.result.now false) es) two.are ∙ settled_moved r.swept c.found-3.result.now false (map (settled_where r.dead false) (map (settled_where r.promoted true) c.self.inside.entries.items)) c.found-3.ensures in
     let many : length c.settle-3.new.entries ≡ _ = ap length c.settle-3.ensures ∙ length-map c.deref_mut-3.result.now _ ∙ two.as_many in
     let left : c.drop_unsettled.new.entries.items ≡ entries_left r c.self.inside.entries.items =
     c.drop_unsettled.ensures.items ∙ ap (λ (es : List Entry). filter is_settled es) (written_back _ c.settle-3.new.entries _ many ∙ c.settle-3.ensures ∙ three) in
@@ -38,10 +37,10 @@ take_all-requires-clause-sorted c =
 pub take_all-requires-clause-within : goal.take_all-requires-clause-within
 take_all-requires-clause-within c =
     let r = report_of c.args.report.now in
-    let one = settles r.promoted c.as_slice.result.now _ c.self.inside.entries.items c.deref_mut.result.now c.settle.new.entries c.deref_mut-2.result.now _ _ c.deref_mut.ensures.value c.deref_mut.ensures.len c.as_slice.ensures c.settle.ensures c.deref_mut-2.ensures.value in
-    let two = settles r.dead c.as_slice-2.result.now _ (map (settled_where r.promoted true) c.self.inside.entries.items) c.deref_mut-2.result.now c.settle-2.new.entries c.deref_mut-3.result.now _ _ one.are one.as_many c.as_slice-2.ensures c.settle-2.ensures c.deref_mut-3.ensures.value in
-    let three : map (settled_where c.as_slice-3.result.now false) c.deref_mut-3.result.now ≡ map (settled_where r.swept false) (map (settled_where r.dead false) (map (settled_where r.promoted true) c.self.inside.entries.items)) =
-    ap (λ (es : List Entry). map (settled_where c.as_slice-3.result.now false) es) two.are ∙ ap (λ (ns : List Name). map (settled_where ns false) (map (settled_where r.dead false) (map (settled_where r.promoted true) c.self.inside.entries.items))) c.as_slice-3.ensures in
+    let one = settles r.promoted c.found.result.now _ c.self.inside.entries.items c.deref_mut.result.now c.settle.new.entries c.deref_mut-2.result.now _ _ c.deref_mut.ensures.value c.deref_mut.ensures.len c.found.ensures c.settle.ensures c.deref_mut-2.ensures.value in
+    let two = settles r.dead c.found-2.result.now _ (map (settled_where r.promoted true) c.self.inside.entries.items) c.deref_mut-2.result.now c.settle-2.new.entries c.deref_mut-3.result.now _ _ one.are one.as_many c.found-2.ensures c.settle-2.ensures c.deref_mut-3.ensures.value in
+    let three : map (settled_where c.found-3.result.now false) c.deref_mut-3.result.now ≡ map (settled_where r.swept false) (map (settled_where r.dead false) (map (settled_where r.promoted true) c.self.inside.entries.items)) =
+    ap (λ (es : List Entry). map (settled_where c.found-3.result.now false) es) two.are ∙ settled_moved r.swept c.found-3.result.now false (map (settled_where r.dead false) (map (settled_where r.promoted true) c.self.inside.entries.items)) c.found-3.ensures in
     let many : length c.settle-3.new.entries ≡ _ = ap length c.settle-3.ensures ∙ length-map c.deref_mut-3.result.now _ ∙ two.as_many in
     let left : c.drop_unsettled.new.entries.items ≡ entries_left r c.self.inside.entries.items =
     c.drop_unsettled.ensures.items ∙ ap (λ (es : List Entry). filter is_settled es) (written_back _ c.settle-3.new.entries _ many ∙ c.settle-3.ensures ∙ three) in
@@ -51,10 +50,10 @@ take_all-requires-clause-within c =
 pub invariant_of-self : goal.invariant_of-self
 invariant_of-self c =
     let r = report_of c.args.report.now in
-    let one = settles r.promoted c.as_slice.result.now _ c.self.inside.entries.items c.deref_mut.result.now c.settle.new.entries c.deref_mut-2.result.now _ _ c.deref_mut.ensures.value c.deref_mut.ensures.len c.as_slice.ensures c.settle.ensures c.deref_mut-2.ensures.value in
-    let two = settles r.dead c.as_slice-2.result.now _ (map (settled_where r.promoted true) c.self.inside.entries.items) c.deref_mut-2.result.now c.settle-2.new.entries c.deref_mut-3.result.now _ _ one.are one.as_many c.as_slice-2.ensures c.settle-2.ensures c.deref_mut-3.ensures.value in
-    let three : map (settled_where c.as_slice-3.result.now false) c.deref_mut-3.result.now ≡ map (settled_where r.swept false) (map (settled_where r.dead false) (map (settled_where r.promoted true) c.self.inside.entries.items)) =
-    ap (λ (es : List Entry). map (settled_where c.as_slice-3.result.now false) es) two.are ∙ ap (λ (ns : List Name). map (settled_where ns false) (map (settled_where r.dead false) (map (settled_where r.promoted true) c.self.inside.entries.items))) c.as_slice-3.ensures in
+    let one = settles r.promoted c.found.result.now _ c.self.inside.entries.items c.deref_mut.result.now c.settle.new.entries c.deref_mut-2.result.now _ _ c.deref_mut.ensures.value c.deref_mut.ensures.len c.found.ensures c.settle.ensures c.deref_mut-2.ensures.value in
+    let two = settles r.dead c.found-2.result.now _ (map (settled_where r.promoted true) c.self.inside.entries.items) c.deref_mut-2.result.now c.settle-2.new.entries c.deref_mut-3.result.now _ _ one.are one.as_many c.found-2.ensures c.settle-2.ensures c.deref_mut-3.ensures.value in
+    let three : map (settled_where c.found-3.result.now false) c.deref_mut-3.result.now ≡ map (settled_where r.swept false) (map (settled_where r.dead false) (map (settled_where r.promoted true) c.self.inside.entries.items)) =
+    ap (λ (es : List Entry). map (settled_where c.found-3.result.now false) es) two.are ∙ settled_moved r.swept c.found-3.result.now false (map (settled_where r.dead false) (map (settled_where r.promoted true) c.self.inside.entries.items)) c.found-3.ensures in
     let many : length c.settle-3.new.entries ≡ _ = ap length c.settle-3.ensures ∙ length-map c.deref_mut-3.result.now _ ∙ two.as_many in
     let left : c.drop_unsettled.new.entries.items ≡ entries_left r c.self.inside.entries.items =
     c.drop_unsettled.ensures.items ∙ ap (λ (es : List Entry). filter is_settled es) (written_back _ c.settle-3.new.entries _ many ∙ c.settle-3.ensures ∙ three) in
@@ -81,10 +80,10 @@ invariant_of-self c =
 pub returns : goal.returns
 returns c =
     let r = report_of c.args.report.now in
-    let one = settles r.promoted c.as_slice.result.now _ c.self.inside.entries.items c.deref_mut.result.now c.settle.new.entries c.deref_mut-2.result.now _ _ c.deref_mut.ensures.value c.deref_mut.ensures.len c.as_slice.ensures c.settle.ensures c.deref_mut-2.ensures.value in
-    let two = settles r.dead c.as_slice-2.result.now _ (map (settled_where r.promoted true) c.self.inside.entries.items) c.deref_mut-2.result.now c.settle-2.new.entries c.deref_mut-3.result.now _ _ one.are one.as_many c.as_slice-2.ensures c.settle-2.ensures c.deref_mut-3.ensures.value in
-    let three : map (settled_where c.as_slice-3.result.now false) c.deref_mut-3.result.now ≡ map (settled_where r.swept false) (map (settled_where r.dead false) (map (settled_where r.promoted true) c.self.inside.entries.items)) =
-    ap (λ (es : List Entry). map (settled_where c.as_slice-3.result.now false) es) two.are ∙ ap (λ (ns : List Name). map (settled_where ns false) (map (settled_where r.dead false) (map (settled_where r.promoted true) c.self.inside.entries.items))) c.as_slice-3.ensures in
+    let one = settles r.promoted c.found.result.now _ c.self.inside.entries.items c.deref_mut.result.now c.settle.new.entries c.deref_mut-2.result.now _ _ c.deref_mut.ensures.value c.deref_mut.ensures.len c.found.ensures c.settle.ensures c.deref_mut-2.ensures.value in
+    let two = settles r.dead c.found-2.result.now _ (map (settled_where r.promoted true) c.self.inside.entries.items) c.deref_mut-2.result.now c.settle-2.new.entries c.deref_mut-3.result.now _ _ one.are one.as_many c.found-2.ensures c.settle-2.ensures c.deref_mut-3.ensures.value in
+    let three : map (settled_where c.found-3.result.now false) c.deref_mut-3.result.now ≡ map (settled_where r.swept false) (map (settled_where r.dead false) (map (settled_where r.promoted true) c.self.inside.entries.items)) =
+    ap (λ (es : List Entry). map (settled_where c.found-3.result.now false) es) two.are ∙ settled_moved r.swept c.found-3.result.now false (map (settled_where r.dead false) (map (settled_where r.promoted true) c.self.inside.entries.items)) c.found-3.ensures in
     let many : length c.settle-3.new.entries ≡ _ = ap length c.settle-3.ensures ∙ length-map c.deref_mut-3.result.now _ ∙ two.as_many in
     let left : c.drop_unsettled.new.entries.items ≡ entries_left r c.self.inside.entries.items =
     c.drop_unsettled.ensures.items ∙ ap (λ (es : List Entry). filter is_settled es) (written_back _ c.settle-3.new.entries _ many ∙ c.settle-3.ensures ∙ three) in

@@ -29,7 +29,7 @@ add-requires-clause-stuck_room g c =
     totals_fit (with_report c.args.self.now.totals (report_of c.args.report.now)).stuck (pauses + 1) (totals_few c.args.self.now.totals pauses (report_of c.args.report.now) few is).stuck is.fits
 
 pub tell-requires : goal.tell-requires
-tell-requires g c = record { told = c.requires.counts }
+tell-requires g c = record { names = c.requires.names; told = c.requires.counts }
 
 pub returns-clause-told : goal.returns-clause-told
 returns-clause-told g c = on_ok_weaker c.tell.result

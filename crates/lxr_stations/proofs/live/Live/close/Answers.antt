@@ -11,7 +11,8 @@ use Rattle.lxr_stations.proofs.live.Live.close.Goals as goal
 
 pub returns-in-Ok-clause-closed : goal.returns-in-Ok-clause-closed
 returns-in-Ok-clause-closed c =
-    let whole : sharing (table_of c.in-Ok.last) c.self.inside.aside ≡ c.args.self.epoch = ap (λ l. sharing (table_of l) c.self.inside.aside) c.in-Ok.ensures.all.0 ∙ ap (λ (l : Lived). l.epoch) c.self.view_is in
+    let last : c.unwrap.result ≡ arc_value c.self.inside.shared = (let told = c.unwrap.ensures in let is = c.in-Ok.ensures.all.0 in cc) in
+    let whole : sharing (table_of c.unwrap.result) c.self.inside.aside ≡ c.args.self.epoch = ap (λ l. sharing (table_of l) c.self.inside.aside) last ∙ ap (λ (l : Lived). l.epoch) c.self.view_is in
     subst (λ (e : Sharing). (b : Beginning) (running : IsRunning b e) → ClosesLive b e running c.args.arrivals.now c.finish.result.0 c.finish.result.1.items) whole
     (λ b running. c.finish.ensures.closes b running c.args.arrivals.now c.in-Ok.ensures.all.1.handed_in c.in-Ok.ensures.all.1.come_home)
 
