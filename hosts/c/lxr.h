@@ -522,7 +522,7 @@ lxr_code lxr_trim_next(lxr_heap *heap, uint32_t from, uint32_t *block);
 /*
  * And this writes where the first word of block 0 lies, until the heap is closed. Each further block lies LXR_BLOCK_WORDS words after the one before
  * it. What stands there is the library's own, and no host reads or writes it: all that may be done is that whole pages go back to the system in
- * blocks which lxr_trim_next has told, before any other call, and in such a way that zeros are found there again.
+ * blocks which lxr_trim_next has told, before any call but lxr_trim_next, and so that zeros are found there again.
  * Codes: LXR_E_NO_HEAP; LXR_E_NOTHING, where nothing was ever written there. Cost: constant.
  */
 lxr_code lxr_first_word(lxr_heap *heap, const uint64_t **place);
