@@ -106,7 +106,9 @@ static lxr_shared_heap_settings settings_of(const char *every) {
     settings.every = (uint32_t)strtoul(every, NULL, 10);
     settings.trace = pauses_between_traces(settings.every);
     settings.pace = LXR_PACE_NEVER;
+#ifdef LXR_MOST_GROW /* which headers of older libraries haven't */
     settings.grow = 0;
+#endif
     return settings;
 }
 

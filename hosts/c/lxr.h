@@ -126,9 +126,9 @@ typedef uint32_t lxr_code;
  * new objects were made, or as many as make a pause due, where that is less; and each further one 4,096 bytes after the one before, until nothing is
  * left for slices to do. A pause by the pace comes only then. By the room, where the log is full or no place is found, and where the host asks, one
  * comes at once, and does first what still waits. Slices leave to the pause what begins with the death of an object that has more references, nil or
- * not, than there is place left in the list of what waits, which has 1,024 and one for each register: so an array of more than some 20,000 elements
- * (lxr_array_new), and after a pause by a full log an object of a few. That pause, and each where `work` is 0, is as long as what dies by it is
- * large.
+ * not, than there is place left in the list of what waits, which has 4,096 and one for each register. An array of any length (lxr_array_new) takes
+ * some 2,000 of these; after a pause by a full log an object of a few references may find none. That pause, and each where `work` is 0, is as long as
+ * what dies by it is large.
  */
 typedef struct lxr_settings {
     uint64_t size;        /* sizeof(lxr_settings) */
@@ -188,7 +188,7 @@ lxr_code lxr_load(lxr_heap *heap, uint32_t dest, uint32_t base, uint32_t index);
 
 /*
  * Reference `index` of the object in register `base` becomes what register `source` holds, or nil. The first store to a reference of a
- * kept object between two pauses records what it overwrites; where the log of 1,024 such records is full, a plain pause is made first, by
+ * kept object between two pauses records what it overwrites; where the log of 4,096 such records is full, a plain pause is made first, by
  * itself.
  * Codes: LXR_E_NO_HEAP, LXR_E_REGISTER, LXR_E_NIL, LXR_E_INDEX. Cost: constant, but for that pause.
  */
@@ -531,9 +531,9 @@ lxr_code lxr_first_word(lxr_heap *heap, const uint64_t **place);
  * Does up to so many `units` of what the next plain pause would do first, so that less is left to it: in the host's idle time, say. `*more` becomes 1
  * where all units were done and something still waits, and else 0: then there is nothing further to do before the next pause. A unit lowers the count
  * of one object by 1, where a reference to it was overwritten, or its owner died, before the last pause; where the count falls to 0 the object is
- * reclaimed, and what it refers to waits to be lowered. It takes no memory: what waits has place in a list of the heap's, of 1,024 counts and one for
+ * reclaimed, and what it refers to waits to be lowered. It takes no memory: what waits has place in a list of the heap's, of 4,096 counts and one for
  * each register. Where a unit would reclaim an object with more references, nil or not, than that has place left for, it isn't done, and all that
- * still waits is left to the pause: so it is with an array of more than some 20,000 elements. LXR_COUNT_WAITING tells how many counts wait.
+ * still waits is left to the pause. LXR_COUNT_WAITING tells how many counts wait.
  * Nothing else is to be seen of it until the next pause but that blocks are free and new objects find places sooner: that pause counts as dead what
  * it would have counted, and until then the body of a large object is kept, and LXR_COUNT_LIVE tells the same.
  * Code: LXR_E_NO_HEAP. Cost: grows with the units, with the references of the objects that die, and with the number of blocks.

@@ -58,7 +58,7 @@ typedef struct lxr_passes_settings {
     uint32_t log;       /* entries of a mutator's log, 1 to 65,536 */
     uint32_t remember;  /* entries of the remembered set, 1 to 1,048,576 */
     uint32_t every;     /* operations of a mutator in an epoch, 1 to 1,048,576 */
-    uint32_t trace;     /* a pause whose number is a multiple of it begins a trace, 1 to 1,000,000 */
+    uint32_t trace;     /* a pause whose number is a multiple of it begins a trace, up to 1,000,000; 0: lxr_passes_pause_and_trace alone */
     uint32_t within;    /* pauses within which a trace ends, 1 to 1,000,000 */
     uint32_t evacuate;  /* blocks that a trace evacuates at most, 0 to an eighth of all */
     uint32_t registers; /* registers of a mutator, 16 to 256; 0: 16 */
@@ -100,6 +100,12 @@ lxr_code lxr_passes_resume(lxr_passes *heap);
 lxr_code lxr_passes_pause(lxr_passes *heap);
 
 /*
+ * The same, and the pause begins a trace, where `trace` of the settings is 0: unless it collects, or a trace runs. By any other setting it is
+ * lxr_passes_pause.
+ */
+lxr_code lxr_passes_pause_and_trace(lxr_passes *heap);
+
+/*
  * What lxr_passes_count tells besides LXR_COUNT_PAUSES, _PROMOTED, _DEAD, _STUCK, _SWEPT, _FREE_BLOCKS and _LAST_KIND of lxr.h. LXR_COUNT_PAUSES
  * is the number of the last pause, counted from the last renewal of names before it: right after a pause that renews names itself it is still
  * counted from the renewal before that, and 1 after the next pause.
@@ -115,6 +121,28 @@ lxr_code lxr_passes_pause(lxr_passes *heap);
  * Codes: LXR_E_NO_HEAP, LXR_E_WHAT, LXR_E_EPOCH, where an epoch is open or the heap is lost. Cost: constant.
  */
 lxr_code lxr_passes_count(const lxr_passes *heap, uint32_t what, uint64_t *number);
+
+/*
+ * Memory of blocks that are wholly free goes back to the system, between epochs, as by lxr_trim of lxr.h.
+ * Codes: LXR_E_NO_HEAP; LXR_E_EPOCH, where an epoch is open, or the heap has ended or is lost. Cost: grows with the number of blocks, and with the
+ * words of the free ones.
+ */
+lxr_code lxr_passes_trim(lxr_passes *heap);
+
+/*
+ * What lxr_passes_trim goes by, for a host that gives memory back by means of its own. This makes all words of the first wholly free block from
+ * number `from` on 0, between epochs, and writes the number of that block. Nothing else changes. A word that is 0 isn't written, but each is read.
+ * Codes: LXR_E_NO_HEAP; LXR_E_EPOCH, where an epoch is open; LXR_E_ENDED; LXR_E_LOST; LXR_E_NOTHING, where no block from there on is free. Cost:
+ * constant for each block up to that one, and that of 4,096 reads and writes.
+ */
+lxr_code lxr_passes_trim_next(lxr_passes *heap, uint32_t from, uint32_t *block);
+
+/*
+ * And this writes where the first word of block 0 lies, until the heap is closed, as lxr_first_word does: whole pages may go back to the system in
+ * blocks which lxr_passes_trim_next has told, before the next epoch is opened.
+ * Codes: LXR_E_NO_HEAP; LXR_E_EPOCH, where an epoch is open, or the heap has ended or is lost. Cost: constant.
+ */
+lxr_code lxr_passes_first_word(lxr_passes *heap, const uint64_t **place);
 
 /* ---- Stations ---- */
 

@@ -84,6 +84,7 @@ struct lxr_shared_heap {
     bool wanted;               /* a pause is, by a mutator that waits for it .. */
     struct timespec since;     /* .. since then */
     bool collecting;           /* it collects */
+    bool trimming;             /* memory of free blocks goes back in it */
     bool lost, closing;
     uint64_t told[TOLD];        /* what the last pause left to be counted, */
     uint64_t kind;              /* and its kind */
@@ -92,6 +93,9 @@ struct lxr_shared_heap {
     bool is_worn;               /* .. as by the last pause */
     uint32_t used;              /* blocks in use, as the last pause left them */
     uint32_t most;              /* room: each mutator whose pass leaves collects where more are; it is that of the settings, or more */
+    uint32_t kept;              /* blocks in use as the last end of a trace or collecting pause left them */
+    bool is_told;               /* one of these has told what lives */
+    bool traces;                /* where traces come by the room: the next pause is to begin one, if none runs */
     uint64_t due;               /* bytes of objects until the next pause is due: by the pace or by the room */
     struct place places[LXR_MOST_MUTATORS];
     struct helper helpers[LXR_MOST_HELPERS];
@@ -110,6 +114,7 @@ struct lxr_mutator {
     bool collects;      /* after its next operation it asks for a collecting pause */
     uint64_t collected; /* collecting pauses, as its pass left its home */
     bool asked;         /* it has asked for one since, and told nobody yet */
+    bool trims;         /* in the next pause memory goes back, and it has told nobody yet */
     lxr_shared_heap *heap;
     char apart[APART];
 };
@@ -126,12 +131,34 @@ static uint64_t nanoseconds(struct timespec from, struct timespec to) {
     return (uint64_t)(to.tv_sec - from.tv_sec) * 1000000000u + (uint64_t)to.tv_nsec - (uint64_t)from.tv_nsec;
 }
 
-/* The bytes of objects until a pause is due: those of the pace, or the room that is left, where there is room for less than all. */
+/* The blocks that a room has left where so many are in use. */
+static uint32_t blocks_left(uint32_t room, uint32_t used) { return used < room ? room - used : 0; }
+
+/* The room by which traces begin: where it grows, the least until a trace or a collecting pause has told what lives. */
+static uint32_t room_of_traces(const lxr_shared_heap *heap) {
+    bool is_told = heap->settings.grow == 0 || heap->is_told;
+    return is_told || heap->most < LEAST_ROOM ? heap->most : LEAST_ROOM;
+}
+
+/* What that room has left as the last trace or collecting pause left it. */
+static uint32_t left_for_traces(const lxr_shared_heap *heap) { return blocks_left(room_of_traces(heap), heap->kept); }
+
+/* The bytes of so many blocks as those until a pause is due: at least LEAST_PACE, and at most the pace. */
+static uint64_t pace_in(const lxr_shared_heap *heap, uint32_t blocks) {
+    uint64_t bytes = (uint64_t)blocks * BLOCK;
+    if (bytes < LEAST_PACE) bytes = LEAST_PACE;
+    return bytes < heap->pace ? bytes : heap->pace;
+}
+
+/*
+ * The bytes of objects until a pause is due: those of the pace, or the room that is left, where there is room for less than all. Where a trace
+ * by the room is to begin or runs, at most an eighth of what the last one left of it, so that it can end before the room is full; but none where
+ * bytes want no pause.
+ */
 static uint64_t due_bytes(const lxr_shared_heap *heap) {
-    if (heap->most >= heap->settings.blocks) return heap->pace;
-    uint64_t left = heap->used < heap->most ? (uint64_t)(heap->most - heap->used) * BLOCK : 0;
-    if (left < LEAST_PACE) left = LEAST_PACE;
-    return left < heap->pace ? left : heap->pace;
+    uint64_t due = heap->most < heap->settings.blocks ? pace_in(heap, blocks_left(heap->most, heap->used)) : heap->pace;
+    uint64_t eighth = pace_in(heap, left_for_traces(heap) / 8);
+    return heap->traces && due != UINT64_MAX && eighth < due ? eighth : due;
 }
 
 /* So many hundredths more than the blocks in use, but at most all. */
@@ -153,17 +180,26 @@ static void keep_room(lxr_shared_heap *heap) {
     heap->most = heap->settings.room < quarter_more ? quarter_more : heap->settings.room;
 }
 
+/* Where traces come by the room, one is to begin once more than half of it is used that the last end of a trace or collecting pause left. */
+static bool wants_trace(const lxr_shared_heap *heap) {
+    return heap->settings.trace == 0 && heap->used > heap->kept && heap->used - heap->kept > left_for_traces(heap) / 2;
+}
+
 /* Notes what the last pause has left in use, and sets the room by it after a collecting pause and each end of a trace. */
 static void note_room(lxr_shared_heap *heap) {
     uint64_t free_blocks = 0;
     lxr_passes_count(&heap->passes, LXR_COUNT_FREE_BLOCKS, &free_blocks);
     heap->used = heap->settings.blocks - (uint32_t)free_blocks;
     bool collects = heap->kind == LXR_KIND_COLLECT;
+    bool reclaims = collects || heap->kind == LXR_KIND_END;
     if (heap->settings.grow) {
-        if (collects || heap->kind == LXR_KIND_END) grow_room(heap);
+        if (reclaims) grow_room(heap);
     } else if (collects) {
         keep_room(heap);
     }
+    if (reclaims) heap->kept = heap->used;
+    heap->is_told |= reclaims;
+    heap->traces = wants_trace(heap);
     heap->due = due_bytes(heap);
 }
 
@@ -186,11 +222,21 @@ static void note_pauses(lxr_shared_heap *heap) {
     if (asked < WORN) heap->worn = WORN;
 }
 
+/* Gives memory of free blocks back, where that was asked for. No epoch is open. */
+static void trim(lxr_shared_heap *heap) {
+    if (heap->trimming) lxr_passes_trim(&heap->passes);
+    heap->trimming = false;
+}
+
 /* Makes the pause that is wanted, opens the next epoch and wakes all. The lock is held, and no pass is away. */
 static void make_pause(lxr_shared_heap *heap) {
     struct timespec begun = now();
-    bool paused = lxr_passes_pause(&heap->passes) == LXR_OK;
-    if (paused) note_pauses(heap);
+    lxr_code made = heap->traces ? lxr_passes_pause_and_trace(&heap->passes) : lxr_passes_pause(&heap->passes);
+    bool paused = made == LXR_OK;
+    if (paused) {
+        note_pauses(heap);
+        trim(heap);
+    }
     lxr_code code = lxr_passes_resume(&heap->passes);
     if (code != LXR_OK && code != LXR_E_EPOCH) heap->lost = true;
     heap->wanted = false;
@@ -281,7 +327,8 @@ static void bring_home(lxr_mutator *mutator) {
     lxr_station_come_home(&mutator->station);
     pthread_mutex_lock(&mutator->heap->lock);
     if (mutator->asked) mutator->heap->collecting = true;
-    mutator->asked = false;
+    if (mutator->trims) mutator->heap->trimming = true;
+    mutator->asked = mutator->trims = false;
 }
 
 /* Wants a pause, waits for it at home, and goes out again. */
@@ -624,6 +671,15 @@ lxr_code lxr_mutator_pause(lxr_mutator *mutator) {
 lxr_code lxr_mutator_collect(lxr_mutator *mutator) {
     lxr_code code = refusal(mutator);
     return code == LXR_OK ? collect(mutator) : code;
+}
+
+lxr_code lxr_mutator_trim(lxr_mutator *mutator) {
+    lxr_code code = refusal(mutator);
+    if (code != LXR_OK) return code;
+    mutator->trims = true;
+    code = pause_once(mutator, false);
+    mutator->trims = false;
+    return code;
 }
 
 lxr_code lxr_mutator_poll(lxr_mutator *mutator) {
@@ -1215,6 +1271,12 @@ static uint64_t pace_of(const lxr_shared_heap_settings *settings) {
     return half < LEAST_PACE ? LEAST_PACE : half > MOST_PACE ? MOST_PACE : half;
 }
 
+/* The pauses within which a trace ends. Without helpers none would ever end by itself, so the pause after the one that begins it marks all. */
+static uint32_t within_of(const lxr_shared_heap_settings *settings) {
+    if (settings->within) return settings->within;
+    return settings->helpers ? LXR_MOST_TRACE : 1;
+}
+
 /* Opens the heap and its first epoch. */
 static lxr_code open_passes(lxr_shared_heap *heap) {
     const lxr_shared_heap_settings *asked = &heap->settings;
@@ -1227,7 +1289,7 @@ static lxr_code open_passes(lxr_shared_heap *heap) {
         .remember = asked->remember,
         .every = asked->every + SPARE,
         .trace = asked->trace,
-        .within = asked->within ? asked->within : LXR_MOST_TRACE,
+        .within = within_of(asked),
         .evacuate = asked->evacuate,
         .registers = all_registers(asked->registers),
         .runs = asked->runs,
@@ -1235,7 +1297,7 @@ static lxr_code open_passes(lxr_shared_heap *heap) {
     lxr_code code = lxr_passes_open(&heap->passes, &settings);
     uint64_t blocks_free = asked->blocks;
     if (code == LXR_OK) lxr_passes_count(&heap->passes, LXR_COUNT_FREE_BLOCKS, &blocks_free);
-    heap->used = asked->blocks - (uint32_t)blocks_free;
+    heap->used = heap->kept = asked->blocks - (uint32_t)blocks_free;
     if (code == LXR_OK) code = lxr_passes_resume(&heap->passes);
     if (code != LXR_OK) lxr_passes_close(&heap->passes);
     heap->epoch = 1;
@@ -1342,6 +1404,7 @@ lxr_code lxr_shared_heap_set_room(lxr_shared_heap *heap, uint32_t blocks) {
     if (blocks > heap->settings.blocks) return LXR_E_SIZE;
     pthread_mutex_lock(&heap->lock);
     heap->settings.room = heap->most = blocks ? blocks : heap->settings.blocks;
+    heap->traces = wants_trace(heap);
     heap->due = due_bytes(heap);
     pthread_mutex_unlock(&heap->lock);
     return LXR_OK;

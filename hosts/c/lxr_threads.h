@@ -76,7 +76,9 @@ typedef struct lxr_pause_times {
  * heap of up to 1,024 blocks the first ones, and in a larger one those with the fewest. What lives in them as the trace ends is copied
  * elsewhere by that pause, which is the longer for it, and they are whole again. By 0 none is, and what is old stays where it is.
  *
- * By `trace` the helpers walk over all that lives each so many pauses, whatever was used meanwhile: by a small number they do so most of the time, and
+ * A trace, for which the helpers walk over all that lives, begins where the room says so, by a `trace` of 0: after the pause at which more than half of
+ * the room is used that the last end of a trace or collecting pause left. Until one of these has told what lives, a room that grows counts as 64
+ * blocks for it. By any other number it begins each so many pauses, whatever was used meanwhile: by a small one the helpers trace most of the time, and
  * by a large one dead cycles wait longer.
  * A trace ends at the first pause at which all that it has to mark is marked, or after `within` pauses: then that pause marks the rest by itself. So
  * by a small number the pauses that end traces grow with what lives; by 0 they find it marked by the helpers. But a trace takes longer then,
@@ -87,8 +89,9 @@ typedef struct lxr_pause_times {
  *
  * `blocks` are reserved. `room` is how many of them are in use before the library collects: after a pause that leaves more in use, each mutator asks
  * for a collecting one with its next operation, so that the next thread that goes on has it made. The pace is no more than the bytes that the last
- * pause left of the room, or than 64 KB where that is less. By `grow` the room is set after each collecting pause and each end of a trace: to the blocks
- * that are in use then and so many hundredths more, but at least 64, and at most all. Where `grow` is 0 it stays as the host has set it; then what a
+ * pause left of the room, or than 64 KB where that is less; and while a trace by the room is to begin or runs, no more than an eighth of what the last
+ * one left. By `grow` the room is set after each collecting pause and each end of a trace: to the blocks that are in use then and so many hundredths
+ * more, but at least 64, and at most all. Where `grow` is 0 it stays as the host has set it; then what a
  * collecting pause left in use and a quarter more counts as the room, where that is more. LXR_E_FULL comes only where all that is reserved is full.
  *
  * In a heap of more than 1,024 blocks at most `runs` pieces of free lines are listed after a pause for mutators to allocate in, besides all free
@@ -107,8 +110,8 @@ typedef struct lxr_shared_heap_settings {
     uint32_t log;      /* overwritten references that a mutator records between two pauses, 1 to 65,536: full, it wants a pause */
     uint32_t remember; /* references that a trace remembers, 1 to 1,048,576 */
     uint32_t every;    /* a mutator wants a pause after so many operations since the last one, 1 to 1,000,000 */
-    uint32_t trace;    /* each pause whose number is a multiple of it begins a trace, where none runs, 1 to 1,000,000 */
-    uint32_t within;   /* a trace ends at the latest so many pauses after it began, up to 1,000,000; 0: that many */
+    uint32_t trace;    /* each pause whose number is a multiple of it begins a trace, where none runs, up to 1,000,000; 0: by the room */
+    uint32_t within;   /* a trace ends at the latest so many pauses after it began, up to 1,000,000; 0: that many, or 1 without helpers */
 
     /* Told of each pause right after it, unless it is null, by the thread that made it. It waits for no thread and calls none of these. */
     void (*paused)(void *with, const lxr_pause_times *times);
@@ -125,12 +128,12 @@ typedef struct lxr_shared_heap_settings {
 
 /*
  * Settings that mostly do, for so many blocks and mutators: sixteen registers each; plain pauses come by the size of the heap, and traces by
- * themselves, each of which evacuates an eighth of the blocks at most, and at most 64; and room for all, until the first collecting pause or end of a
+ * the room, each of which evacuates an eighth of the blocks at most, and at most 64; and room for all, until the first collecting pause or end of a
  * trace sets it to twice what is in use. `blocks` is evaluated more than once.
  */
 #define LXR_SHARED_HEAP_SETTINGS(blocks, mutators) \
     { \
-        sizeof(lxr_shared_heap_settings), (blocks), (mutators), 1, 1024, 65536, 65536, 16, 0, 0, 0, LXR_PACE_ROOM, \
+        sizeof(lxr_shared_heap_settings), (blocks), (mutators), 1, 1024, 65536, 65536, 0, 0, 0, 0, LXR_PACE_ROOM, \
             (uint32_t)((blocks) < 512 ? (blocks) / 8 : 64), LXR_REGISTERS, 0, LXR_GROW, 0, 0 \
     }
 
@@ -468,6 +471,16 @@ lxr_code lxr_mutator_pause(lxr_mutator *mutator);
  * Cost: as that of lxr_mutator_pause, and grows besides with all that can be reached.
  */
 lxr_code lxr_mutator_collect(lxr_mutator *mutator);
+
+/*
+ * A pause is made before this comes back, and in it memory of blocks that are wholly free then goes back to the system, but for parts of a page; it
+ * comes again page by page where new objects take them. Nothing else that a host can tell changes. Where lxr_mutator_collect comes before it,
+ * most is given back. As a heap is opened all of its blocks take memory, so that this gives back what wasn't used either. What a host owes:
+ * malloc gives private memory that is no file's, as that of the C library does.
+ * Cost: as that of lxr_mutator_pause; and that pause grows besides with the number of blocks, and with the words of the free ones, which are all
+ * read, while all threads wait. How long that takes was measured for a heap of one thread alone (lxr_trim).
+ */
+lxr_code lxr_mutator_trim(lxr_mutator *mutator);
 
 #ifdef __cplusplus
 }

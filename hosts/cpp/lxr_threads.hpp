@@ -170,7 +170,7 @@ public:
 class shared_heap {
 public:
     /// Opens a heap of 1 to 65,536 blocks of 32 KB, for 1 to 255 mutators at once, with the header's settings: plain pauses by the size of the
-    /// heap, and traces by themselves, each of which evacuates an eighth of the blocks at most, and at most 64.
+    /// heap, and traces by the room, each of which evacuates an eighth of the blocks at most, and at most 64.
     shared_heap(std::uint32_t blocks, std::uint32_t mutators)
         : shared_heap(lxr_shared_heap_settings LXR_SHARED_HEAP_SETTINGS(blocks, mutators)) {}
 
@@ -296,6 +296,9 @@ public:
 
     /// A pause that leaves exactly what can be reached.
     void collect() { detail::done(lxr_mutator_collect(share().handle)); }
+
+    /// A pause in which memory of blocks that are wholly free then goes back to the system: `collect` before it gives most.
+    void trim() { detail::done(lxr_mutator_trim(share().handle)); }
 
     /// Takes part in a pause where one is wanted: for loops that call nothing else for long.
     void poll() { detail::done(lxr_mutator_poll(share().handle)); }

@@ -163,7 +163,7 @@ free_lists_itself : (t : Tables) (b : ℕ) → state_in t b ≡ Free → block_f
 free_lists_itself t b free = ap (λ s. if lists_block s then (b ∷ []) else []) free
 
 -- another lists no number
-used_lists_none : (t : Tables) (b : ℕ) → state_in t b ≢ Free → block_frees t b ≡ []
+pub used_lists_none : (t : Tables) (b : ℕ) → state_in t b ≢ Free → block_frees t b ≡ []
 used_lists_none t b used = ap (λ x. if x then (b ∷ []) else []) (another (state_in t b) used)
   where
     another : (s : BlockState) → s ≢ Free → lists_block s ≡ false

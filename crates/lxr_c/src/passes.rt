@@ -1,5 +1,5 @@
 //! A heap that threads share, for programs in C: the calls of `lxr_passes.h`. None waits, starts a thread, or calls back.
-ghost use Rattle.std.specs.Prelude.{◌≡◌, ℕ, Ok, Err, option_map, Result, Bool};
+ghost use Rattle.std.specs.Prelude.{◌≡◌, ℕ, Ok, Err, option_map, Result, Bool, false, true};
 ghost use Rattle.lxr_graph.specs.declared.Op.TheVariants as op;
 ghost use Rattle.lxr_c_base.specs.Codes.{code_in, flag, number_of, told, written_over};
 ghost use Rattle.lxr_c_shared.specs.Holding.{At};
@@ -7,6 +7,7 @@ ghost use Rattle.lxr_c_shared.specs.Passing.{Answers, ClosesStation, ComesHome, 
 ghost use Rattle.lxr_c_base.specs.Requests as asking;
 ghost use Rattle.lxr_c_base.specs.Requests.{small_of as is_small_of};
 ghost use Rattle.lxr_c_shared.specs.Sharing.{ClosesHeap, CountsPause, OpensHeap, PausesHeap, ResumesHeap};
+ghost use Rattle.lxr_c_shared.specs.Trimming.{AsksSharedPlace, TrimsShared};
 ghost use Rattle.lxr_c_base.specs.declared.codes.Code.{Code as CodeOf};
 ghost use Rattle.lxr_c_shared.specs.declared.passing.Told.{Told as ToldOf};
 
@@ -78,9 +79,17 @@ pub extern "C" fn lxr_passes_resume(alloc: Global, heap: &mut Holder) -> u32
 /// Closes the epoch and makes a pause, where one is wanted.
 #[unsafe(no_mangle)]
 pub extern "C" fn lxr_passes_pause(heap: &mut Holder) -> u32
-    ensures { (answer : CodeOf) × At CodeOf.NoHeap PausesHeap heap.old.held.value heap.new.held.value answer × (result ≡ number_of answer) }
+    ensures { (answer : CodeOf) × At CodeOf.NoHeap (PausesHeap false) heap.old.held.value heap.new.held.value answer × (result ≡ number_of answer) }
 {
-    heap.pause().number()
+    heap.pause(false).number()
+}
+
+/// The same, and begins a trace, where `trace` of the settings is 0: unless the pause collects, or a trace runs.
+#[unsafe(no_mangle)]
+pub extern "C" fn lxr_passes_pause_and_trace(heap: &mut Holder) -> u32
+    ensures { (answer : CodeOf) × At CodeOf.NoHeap (PausesHeap true) heap.old.held.value heap.new.held.value answer × (result ≡ number_of answer) }
+{
+    heap.pause(true).number()
 }
 
 /// Writes what `what` counts of the last pause.
@@ -91,6 +100,43 @@ pub extern "C" fn lxr_passes_count(heap: &mut Holder, what: u32, number: &mut u6
     match heap.count_pause(what) {
         Ok(count) => {
             *number = count;
+            Code::Done.number()
+        }
+        Err(code) => code.number(),
+    }
+}
+
+/// Makes the words of the first free block from number `from` on 0, and writes its number.
+#[unsafe(no_mangle)]
+pub extern "C" fn lxr_passes_trim_next(
+    alloc: Global,
+    heap: &mut Holder,
+    from: u32,
+    block: &mut u32,
+) -> u32
+    ensures { (answer : Result ℕ CodeOf) × At (Err CodeOf.NoHeap) (TrimsShared from) heap.old.held.value heap.new.held.value answer × (result ≡ number_of (code_in answer)) × (block.new ≡ written_over block.old (told (λ n. n) answer)) }
+{
+    match heap.trim_next(alloc, from) {
+        Ok(found) => {
+            *block = found;
+            Code::Done.number()
+        }
+        Err(code) => code.number(),
+    }
+}
+
+/// Writes where the first word of the heap's blocks lies: block 0 begins there, and each further one 32 KB after the one before it.
+#[unsafe(no_mangle)]
+pub extern "C" fn lxr_passes_first_word(
+    alloc: Global,
+    heap: &mut Holder,
+    place: &mut *const u64,
+) -> u32
+    ensures { (answer : CodeOf) × At CodeOf.NoHeap AsksSharedPlace heap.old.held.value heap.new.held.value answer × (result ≡ number_of answer) }
+{
+    match heap.first_word(alloc) {
+        Ok(word) => {
+            *place = word;
             Code::Done.number()
         }
         Err(code) => code.number(),

@@ -80,7 +80,7 @@ held_cases (Some m) (Some n) = elim (cases_Bool (same_name m n)) [
   | inr other ↦ inr (λ e. let same : same_name m n ≡ true = subst (λ k. same_name m k ≡ true) (same_Some m n e) (same_itself m) in cc)
 ]
 
-mapped_at : (f : Option Name → Option Name) (v : Option (List (Option Name))) (i : ℕ) → slice_get (unwrap_or (option_map (map f) v) []) i ≡ option_map f (slice_get (unwrap_or v []) i)
+pub mapped_at : (f : Option Name → Option Name) (v : Option (List (Option Name))) (i : ℕ) → slice_get (unwrap_or (option_map (map f) v) []) i ≡ option_map f (slice_get (unwrap_or v []) i)
 mapped_at f None i = refl
 mapped_at f (Some vs) i = slice_get-map f vs i
 
@@ -264,11 +264,11 @@ copied x m y h j k at first count pair own is fits has none plain stored taken r
     )
 
 -- a range of a whole array is there, or its code isn't that of success
-record IsWhole (array end : ℕ) (v : Option (List (Option Name))) (r : Result Side Code) : Type 0 where
+pub record IsWhole (array end : ℕ) (v : Option (List (Option Name))) (r : Result Side Code) : Type 0 where
   pub same : r ≡ Ok (side.Whole array)
   pub within : end ≤ length (unwrap_or v [])
 
-range_cases : (v : Option (List (Option Name))) (root part : Option ℕ) (array end : ℕ) → root ≡ None
+pub range_cases : (v : Option (List (Option Name))) (root part : Option ℕ) (array end : ℕ) → root ≡ None
     → IsWhole array end v (range_held (option_map length v) root part array end) ⊎ ((e : Code) × (e ≢ code.Done) × (range_held (option_map length v) root part array end ≡ Err e))
 range_cases v root part array end none = subst (λ r. IsWhole array end v (range_held (option_map length v) r part array end) ⊎ ((e : Code) × (e ≢ code.Done) × (range_held (option_map length v) r part array end ≡ Err e))) (sym none) (at_references v)
   where

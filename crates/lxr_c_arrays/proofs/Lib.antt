@@ -18,3 +18,4 @@ pub mod OwnLemmas
 pub mod ReachLemmas
 pub mod LedLemmas
 pub mod KeptLemmas
+mod ThroughLemmas

@@ -1,8 +1,8 @@
 -- What was planned was carried out.
-use Rattle.std.proofs.Common.{◌≡◌, ◌≢◌, ◌+◌, refl, sym, ap, subst, arith, Bool, true, false, None, Some, List, [], ◌∷◌}
+use Rattle.std.proofs.Common.{◌≡◌, ◌≢◌, ◌∙◌, ℕ, ◌+◌, refl, sym, ap, subst, arith, Bool, true, false, Option, None, Some, List, [], ◌∷◌}
 use Rattle.std.proofs.lemmas.Bool.{leb-true}
 use Rattle.std.proofs.lemmas.Option.{same_Some}
-use Rattle.std.specs.Prelude.{Result, Ok, Err, if◌then◌else◌, nat_le}
+use Rattle.std.specs.Prelude.{Result, Ok, Err, if◌then◌else◌, nat_le, option_map}
 use Rattle.lxr_large_model.specs.History.{LargeItem}
 use Rattle.lxr_c_base.specs.declared.codes.Code.{Code}
 use Rattle.lxr_c_base.specs.declared.codes.Code.TheVariants as code
@@ -14,7 +14,7 @@ use Rattle.lxr_c_heap.proofs.RegisterLemmas.{named_few}
 use Rattle.lxr_c_heap.proofs.RoomLemmas.{SomeHistory}
 use Rattle.lxr_c_many.specs.declared.asked.Asked.{Asked}
 use Rattle.lxr_c_arrays.specs.declared.registers.Pair.{Pair}
-use Rattle.lxr_c_arrays.specs.Plans.{IsOwn, IsPair, planned}
+use Rattle.lxr_c_arrays.specs.Plans.{IsOwn, IsPair, first_own, planned}
 use Rattle.lxr_c_arrays.specs.Running.{Carries, InPlan, InTurn, Plan}
 use Rattle.lxr_c_arrays.proofs.RunLemmas.{runs_host, runs_on, turn_stop}
 
@@ -77,3 +77,11 @@ own_second x own is = at_room (nat_le (registers_in x + OWN_REGISTERS) (all_regi
     at_room : (b : Bool) → (if b then Some (record { first = registers_in x; second = registers_in x + 1 }) else None) ≡ Some own → own.second ≡ registers_in x + 1
     at_room true same = sym (ap (λ (o : OwnRegisters). o.second) (same_Some _ _ same))
     at_room false same = absurd (cc)
+
+-- so is the first, where there is one
+pub first_beyond : (x : HostHeap) (part : ℕ) → first_own x ≡ Some part → part ≡ registers_in x
+first_beyond x part is = at_own (own_in x) refl is
+  where
+    at_own : (o : Option OwnRegisters) → own_in x ≡ o → option_map (λ (own : OwnRegisters). own.first) o ≡ Some part → part ≡ registers_in x
+    at_own None e same = absurd (cc)
+    at_own (Some own) e same = sym (same_Some own.first part same) ∙ own_first x own e

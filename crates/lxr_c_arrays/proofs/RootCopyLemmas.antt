@@ -1,13 +1,14 @@
 -- A copy between roots replaces the elements, where they are one or apart, and the parts of the one that is written to are its own.
-use Rattle.std.proofs.Common.{◌≡◌, ◌≢◌, ℕ, zero, suc, ◌+◌, ◌*◌, ◌/◌, ◌%◌, ◌<◌, ◌≤◌, ◌⊎◌, ◌∙◌, refl, sym, ap, subst, arith, inl, inr, Bool, true, false, Option, Some, None, List, [], ◌∷◌, length, map}
+use Rattle.std.proofs.Common.{◌≡◌, ◌≢◌, ℕ, zero, suc, ◌+◌, ◌*◌, ◌/◌, ◌%◌, ◌<◌, ◌≤◌, ◌⊎◌, ◌∙◌, refl, sym, ap, subst, arith, inl, inr, Bool, true, false, Option, Some, None, List, [], ◌∷◌, ◌++◌, length, map}
 use Rattle.std.specs.Prelude.{◌==◌, min, nat_le, nat_lt, option_map, slice_get, slice_index_or, unwrap_or, if◌then◌else◌, Result, Ok, Err}
 use Rattle.std.proofs.lemmas.Bool.{cases_eq, eq-eqb, leb-true}
-use Rattle.std.proofs.lemmas.Option.{get_or_from_slice_get}
+use Rattle.std.proofs.lemmas.Option.{get_or_from_slice_get, same_Some, slice_get_within}
 use Rattle.lxr_layout.specs.declared.Name.{Name}
 use Rattle.lxr_layout.specs.declared.TheConstants.{REGISTERS}
 use Rattle.lxr_graph.specs.State.{object_at, refs_of, register_at, values_of}
 use Rattle.lxr_large_model.specs.History.{LargeItem, large_state}
 use Rattle.lxr_large_model.specs.State.{LargeState}
+use Rattle.lxr_c_base.specs.Requests.{index_of}
 use Rattle.lxr_c_base.specs.declared.codes.Code.{Code}
 use Rattle.lxr_c_base.specs.declared.codes.Code.TheVariants as code
 use Rattle.lxr_c_heap.specs.declared.host.HostHeap.{HostHeap}
@@ -20,19 +21,28 @@ use Rattle.lxr_c_arrays.specs.declared.copying.Copying.{Copying}
 use Rattle.lxr_c_arrays.specs.declared.registers.Pair.{Pair}
 use Rattle.lxr_c_arrays.specs.declared.side.Side.{Side}
 use Rattle.lxr_c_arrays.specs.declared.side.Side.TheVariants as side
-use Rattle.lxr_c_arrays.specs.Elements.{AreApart, CopiesReachParts, HasCopiedParts, HasOwnParts, IsNoPart, as_named, as_renamed, element_at, elements_of, part_of, references_of, with_renewals}
+use Rattle.lxr_c_arrays.specs.Elements.{AreApart, CopiesEnterParts, CopiesReachParts, HasCopiedParts, HasOwnParts, IsNoPart, as_named, as_renamed, element_at, elements_at, elements_of, part_of, references_of, with_renewals}
 use Rattle.lxr_c_arrays.specs.Operations.{load_of, nil_of, store_of}
-use Rattle.lxr_c_arrays.specs.Plans.{IsPair, check_copy, copy_by, copy_checked, copy_steps, copying, copying_by, enters, planned, round_of}
+use Rattle.lxr_c_arrays.specs.Plans.{CopiesElements, IsPair, check_copy, copy_by, copy_checked, copy_steps, copying, copying_by, enters, planned, round_of}
 use Rattle.lxr_c_arrays.specs.Running.{Carries, Runs, in_turn}
-use Rattle.lxr_c_arrays.specs.Sides.{checks, range_held, root_length, store_steps}
-use Rattle.lxr_c_arrays.proofs.CopyLemmas.{Left, Written, all_written, left_before, none_else, source_left, written_before}
-use Rattle.lxr_c_arrays.proofs.ElementLemmas.{changed_register, few_registers, load_first, nil_last, root_element}
-use Rattle.lxr_c_arrays.proofs.FillLemmas.{named_at, named_lists, named_with, renewals_with, renewed_bodies, same_reference}
+use Rattle.lxr_c_arrays.specs.Sides.{checks, load_steps, range_held, root_length, store_steps}
+use Rattle.lxr_c_arrays.proofs.CopyLemmas.{Left, Written, all_written, left_before, mapped_at, none_else, range_cases, source_left, written_before}
+use Rattle.lxr_c_arrays.proofs.ElementLemmas.{changed_register, few_registers, load_first, nil_last, root_element, small_index}
+use Rattle.lxr_c_arrays.proofs.FillLemmas.{as_many, named_at, named_lists, named_with, reference_at, renewals_with, renewed_bodies, same_reference, whole_at}
 use Rattle.lxr_c_arrays.proofs.PlanLemmas.{own_first, own_second, own_there}
 use Rattle.lxr_c_arrays.proofs.RootFillLemmas.{Beside, all_listed, at_hand_after, beside_none, beside_on, beside_with, checks_load, from_apart, from_element, from_root, kept_element, loads_beside, mapped_many, no_part_after, or_false, others_own, own_after, references_after, references_root, rooted, same_apart, same_element, same_no_part, same_own, same_part, same_refs, same_renewals, same_root, same_words, stored_element, words_after, words_root}
 use Rattle.lxr_c_arrays.proofs.RunLemmas.{runs_apart, runs_host}
 use Rattle.lxr_c_arrays.proofs.SettleLemmas.{Settled, same_references}
 use Rattle.lxr_c_arrays.proofs.StoreLemmas.{SetReference, bodies_now, registers_now, root_by, store_first}
+
+-- ---- what is copied from
+
+-- the array that is copied from, as a side by way of the register `second`: a root, which is the one that is written to or apart from it, or an
+-- object that is no part of that one
+data IsSource (second : ℕ) (pair : Pair) (s : LargeState) (from : Side) : Type 0 where
+  of_root : (all : ℕ) → from ≡ side.Parts pair.other second → root_length s pair.other ≡ Some all
+      → (register_at s.small 1 pair.other ≡ register_at s.small 1 pair.array) ⊎ AreApart s pair.array pair.other → IsSource second pair s from
+  of_object : from ≡ side.Whole pair.other → root_length s pair.other ≡ None → IsNoPart s pair.array pair.other → IsSource second pair s from
 
 -- ---- what is copied so far
 
@@ -52,7 +62,7 @@ record Copies (registers own at first : ℕ) (Wrote Stays Last : ℕ → Type 0)
   at_hand : (i : ℕ) → Last i → register_at u.small 1 own ≡ part_of u pair.array (i / 1023)
   copied : (i : ℕ) → Wrote (at + i) → element_at u pair.array (at + i) ≡ option_map (as_renamed renewals) (element_at s pair.other (first + i))
   others : (i : ℕ) → Stays i → element_at u pair.array i ≡ option_map (as_renamed renewals) (element_at s pair.array i)
-  other : AreApart s pair.array pair.other → Keeps pair.other pair.array renewals s u
+  other : (all : ℕ) → root_length s pair.other ≡ Some all → AreApart s pair.array pair.other → Keeps pair.other pair.array renewals s u
   no_part : (r : ℕ) → r < registers → IsNoPart s pair.array r → IsNoPart u pair.array r
   references : (r : ℕ) → r < registers → IsNoPart s pair.array r → references_in u r ≡ option_map (map (as_renamed renewals)) (references_in s r)
   words_of : (r : ℕ) → r < registers → IsNoPart s pair.array r → words_in u r ≡ words_in s r
@@ -66,11 +76,15 @@ same_object s q r i same =
 
 module _ (registers own at first : ℕ) (Wrote Stays Last : ℕ → Type 0) (pair : Pair) (s u : LargeState) (fits : IsPair registers pair) (copies : Copies registers own at first Wrote Stays Last pair s u) where
   -- an element that is still to be copied is what it was
-  source_kept : (register_at s.small 1 pair.other ≡ register_at s.small 1 pair.array) ⊎ AreApart s pair.array pair.other → (j : ℕ) → Stays j → element_at u pair.other j ≡ option_map (as_renamed copies.renewals) (element_at s pair.other j)
-  source_kept (inl same) j stays =
+  source_kept : (second : ℕ) (from : Side) → IsSource second pair s from → (j : ℕ) → Stays j → element_at u pair.other j ≡ option_map (as_renamed copies.renewals) (element_at s pair.other j)
+  source_kept second from (of_object is plain none) j stays =
+      let f = as_renamed copies.renewals in
+      let plain_u : root_length u pair.other ≡ None = root_by s u pair.other (copies.words_of pair.other fits.1 none) ∙ plain in
+      whole_at u pair.other j plain_u ∙ ap (λ vs. slice_get (unwrap_or vs []) j) (copies.references pair.other fits.1 none) ∙ mapped_at f (references_in s pair.other) j ∙ ap (option_map f) (sym (whole_at s pair.other j plain))
+  source_kept second from (of_root all is plain (inl same)) j stays =
       same_object u pair.other pair.array j (copies.held pair.other fits.1 ∙ ap (as_renamed copies.renewals) same ∙ sym (copies.held pair.array fits.0)) ∙ copies.others j stays
       ∙ ap (option_map (as_renamed copies.renewals)) (sym (same_object s pair.other pair.array j same))
-  source_kept (inr are) j stays = (copies.other are).elements j
+  source_kept second from (of_root all is plain (inr are)) j stays = (copies.other all plain are).elements j
 
   -- and so is all, where another register of the library's got something
   copies_beside : (second : ℕ) (t : LargeState) → registers ≤ second → own ≢ second → Beside second u t → Copies registers own at first Wrote Stays Last pair s t
@@ -87,8 +101,8 @@ module _ (registers own at first : ℕ) (Wrote Stays Last : ℕ → Type 0) (pai
         at_hand = λ i last. by.registers own differs ∙ copies.at_hand i last ∙ sym (same_part second u t by pair.array (i / 1023) array);
         copied = λ i wrote. same_element second u t by pair.array (at + i) array ∙ copies.copied i wrote;
         others = λ i stays. same_element second u t by pair.array i array ∙ copies.others i stays;
-        other = λ are.
-            let kept = copies.other are in
+        other = λ all plain are.
+            let kept = copies.other all plain are in
             record { are = same_apart second u t by pair.array pair.other array from kept.are; root = same_root second u t by pair.other from ∙ kept.root; elements = λ i. same_element second u t by pair.other i from ∙ kept.elements i };
         no_part = λ r less none. same_no_part second u t by pair.array r array (apart r less) (copies.no_part r less none);
         references = λ r less none. same_refs second u t by r (apart r less) ∙ copies.references r less none;
@@ -100,8 +114,8 @@ module _ (registers own at first : ℕ) (Wrote Stays Last : ℕ → Type 0) (pai
 -- ---- one more
 
 -- the value that is stored is at hand in a register, and so is the part, in a state beside
-module _ (registers own second at first n elements all : ℕ) (Wrote Stays Last : ℕ → Type 0) (pair : Pair) (s u v b w : LargeState) (value : Option Name) (fits : IsPair registers pair) (beyond : registers ≤ own)
-    (apart : second ≢ own) (root : root_length s pair.array ≡ Some elements) (plain : root_length s pair.other ≡ Some all) (within : at + n < elements) (inside : (at + n) / 1023 < length (unwrap_or (references_in s pair.array) []))
+module _ (registers own second at first n elements : ℕ) (Wrote Stays Last : ℕ → Type 0) (pair : Pair) (s u v b w : LargeState) (value : Option Name) (fits : IsPair registers pair) (beyond : registers ≤ own)
+    (apart : second ≢ own) (root : root_length s pair.array ≡ Some elements) (within : at + n < elements) (inside : (at + n) / 1023 < length (unwrap_or (references_in s pair.array) []))
     (copies : Copies registers own at first Wrote Stays Last pair s u) (by : Beside own u v) (hand : register_at v.small 1 own ≡ part_of v pair.array ((at + n) / 1023))
     (has : register_at u.small 1 second ≡ value) (was : Some value ≡ option_map (as_renamed copies.renewals) (element_at s pair.other (first + n)))
     (settled : Settled v b) (set : SetReference b w own ((at + n) % 1023) second) where
@@ -153,8 +167,8 @@ module _ (registers own second at first n elements all : ℕ) (Wrote Stays Last 
       | inr differs ↦ kept (at + i) differs ∙ ap (option_map g) (copies.copied i (before (at + i) more differs)) ∙ named_at settled.names copies.renewals (element_at s pair.other (first + i))
     ];
     others = λ i less. kept i (behind i less).0 ∙ ap (option_map g) (copies.others i (behind i less).1) ∙ named_at settled.names copies.renewals (element_at s array i);
-    other = λ are.
-        let kept = copies.other are in
+    other = λ all plain are.
+        let kept = copies.other all plain are in
         let from = own_apart pair.other fits.1 in
         let is_v : root_length v pair.other ≡ Some all = same_root own u v by pair.other from ∙ kept.root ∙ plain in
         let are_v = same_apart own u v by array pair.other array_own from kept.are in
@@ -204,7 +218,7 @@ none_copied registers own at first count up pair s own_parts = record {
   at_hand = λ i last. absurd last;
   copied = λ i wrote. absurd (none_written up (at + i) wrote);
   others = λ i stays. same_reference (element_at s pair.array i);
-  other = λ are. record { are = are; root = refl; elements = λ i. same_reference (element_at s pair.other i) };
+  other = λ all plain are. record { are = are; root = refl; elements = λ i. same_reference (element_at s pair.other i) };
   no_part = λ r less none. none;
   references = λ r less none. same_references (references_in s r);
   words_of = λ r less none. refl;
@@ -216,9 +230,9 @@ none_copied registers own at first count up pair s own_parts = record {
     none_written true i (low, high) = omega (arith, low, high)
     none_written false i (low, high) = omega (arith, low, high)
 
-module _ (registers at first count elements all : ℕ) (pair : Pair) (own second : ℕ) (fits : IsPair registers pair) (one : own ≡ registers) (two : second ≡ registers + 1) (room : second < REGISTERS) where
+module _ (registers at first count elements : ℕ) (pair : Pair) (own second : ℕ) (from : Side) (fits : IsPair registers pair) (one : own ≡ registers) (two : second ≡ registers + 1) (room : second < REGISTERS) where
   abbrev c : Copying
-  c = record { to = side.Parts pair.array own; at = at; from = side.Parts pair.other second; first = first; count = count; element = second }
+  c = record { to = side.Parts pair.array own; at = at; from = from; first = first; count = count; element = second }
 
   abbrev up : Bool
   up = nat_lt first at
@@ -229,24 +243,21 @@ module _ (registers at first count elements all : ℕ) (pair : Pair) (own second
   differs : second ≢ own
   differs e = omega (arith, e, one, two)
 
-  -- the roots are as they have to be
+  -- the root and what is copied from are as they have to be
   record Roots (s : LargeState) : Type 0 where
     root : root_length s pair.array ≡ Some elements
-    plain : root_length s pair.other ≡ Some all
     own_parts : HasOwnParts s pair.array
-    related : (register_at s.small 1 pair.other ≡ register_at s.small 1 pair.array) ⊎ AreApart s pair.array pair.other
+    source : IsSource second pair s from
     stored : at + count ≤ elements
     inside : at + count ≤ 1023 * length (unwrap_or (references_in s pair.array) [])
-    loaded : first + count ≤ all
+    loaded : (all : ℕ) → root_length s pair.other ≡ Some all → first + count ≤ all
 
-  source_root : (n : ℕ) (s u : LargeState) → Roots s → Copied n s u → root_length u pair.other ≡ Some all
-  source_root n s u roots copies = at_case roots.related
-    where
-      at_case : (register_at s.small 1 pair.other ≡ register_at s.small 1 pair.array) ⊎ AreApart s pair.array pair.other → root_length u pair.other ≡ Some all
-      at_case (inr are) = (copies.other are).root ∙ roots.plain
-      at_case (inl same) =
-          let now : register_at u.small 1 pair.other ≡ register_at u.small 1 pair.array = copies.held pair.other fits.1 ∙ ap (as_renamed copies.renewals) same ∙ sym (copies.held pair.array fits.0) in
-          root_by s u pair.other (ap (option_map (λ a. values_of (object_at u.small.graph a))) now ∙ copies.words ∙ sym (ap (option_map (λ a. values_of (object_at s.small.graph a))) same)) ∙ roots.plain
+  source_root : (n all : ℕ) (s u : LargeState) → root_length s pair.other ≡ Some all → (register_at s.small 1 pair.other ≡ register_at s.small 1 pair.array) ⊎ AreApart s pair.array pair.other → Copied n s u
+      → root_length u pair.other ≡ Some all
+  source_root n all s u plain (inr are) copies = (copies.other all plain are).root ∙ plain
+  source_root n all s u plain (inl same) copies =
+      let now : register_at u.small 1 pair.other ≡ register_at u.small 1 pair.array = copies.held pair.other fits.1 ∙ ap (as_renamed copies.renewals) same ∙ sym (copies.held pair.array fits.0) in
+      root_by s u pair.other (ap (option_map (λ a. values_of (object_at u.small.graph a))) now ∙ copies.words ∙ sym (ap (option_map (λ a. values_of (object_at s.small.graph a))) same)) ∙ plain
 
   at_hand_round : (s u : LargeState) (n : ℕ) (value : Option Name) (m y : HostHeap) (j k : List LargeItem) → Roots s → n < count → IsHostOf m j → Beside own u (large_state j)
       → register_at (large_state j).small 1 own ≡ part_of (large_state j) pair.array ((at + round_of up count n) / 1023) → register_at u.small 1 second ≡ value
@@ -259,8 +270,8 @@ module _ (registers at first count elements all : ℕ) (pair : Pair) (own second
       let inside = roots.inside in
       let stores = store_first m y j k own ((at + r) % 1023) second [] is runs in
       subst (λ l. Copied (suc n) s (large_state l)) (sym stores.rest.1)
-      (copy_round registers own second at first r elements all (Written up at count n) (Left up at count n) (LastOf up at count n) pair s u (large_state j) stores.before (large_state stores.history) value fits (omega (arith, one)) differs
-      roots.root roots.plain (omega (arith, small, stored)) (omega (arith, small, inside)) copies by hand has was stores.settled stores.set (Written up at count (suc n)) (Left up at count (suc n)) (LastOf up at count (suc n))
+      (copy_round registers own second at first r elements (Written up at count n) (Left up at count n) (LastOf up at count n) pair s u (large_state j) stores.before (large_state stores.history) value fits (omega (arith, one)) differs
+      roots.root (omega (arith, small, stored)) (omega (arith, small, inside)) copies by hand has was stores.settled stores.set (Written up at count (suc n)) (Left up at count (suc n)) (LastOf up at count (suc n))
       (λ i. written_before up at count n i less) (λ i. left_before up at count n i less) (λ i next. next))
 
   at_enters : (s : LargeState) (n : ℕ) (value : Option Name) (m y : HostHeap) (j k : List LargeItem) → Roots s → n < count → IsHostOf m j → register_at (large_state j).small 1 second ≡ value → (copies : Copied n s (large_state j))
@@ -287,6 +298,62 @@ module _ (registers at first count elements all : ℕ) (pair : Pair) (own second
       let border : i % 1023 ≢ (if up then 1022 else 0) = λ same. let yes : (i % 1023 == (if up then 1022 else 0)) ≡ true = eq-eqb (i % 1023) (if up then 1022 else 0) same in absurd (let no = none.1 in cc) in
       at_hand_round s t (suc n) value m y j k roots less is (beside_none own t) (copies.at_hand (at + round_of up count n) refl ∙ ap (part_of t pair.array) (same_part_next up at count n less border)) has copies was runs
 
+  -- an element of what is copied from was loaded to the second register
+  record Loaded (m y : HostHeap) (j k : List LargeItem) (i : ℕ) (put : List Asked) : Type 0 where
+    heap : HostHeap
+    history : List LargeItem
+    host : IsHostOf heap history
+    got : Option Name
+    by : Beside second (large_state j) (large_state history)
+    held : register_at (large_state history).small 1 second ≡ got
+    value : element_at (large_state j) pair.other i ≡ Some got
+    rest : Runs heap history put y k code.Done
+
+  source_loaded : (m y : HostHeap) (j k : List LargeItem) (n i : ℕ) (s : LargeState) → IsHostOf m j → Copied n s (large_state j) → IsSource second pair s from → ((all : ℕ) → root_length s pair.other ≡ Some all → i < all)
+      → (put : List Asked) → Runs m j (load_steps from second i ++ put) y k code.Done → Loaded m y j k i put
+  source_loaded m y j k n i s host copies (of_object is plain none) within put runs =
+      let u : LargeState = large_state j in
+      let other = fits.1 in
+      let loads = load_first m y j k second pair.other (index_of i) put host (subst (λ a. Runs m j (load_steps a second i ++ put) y k code.Done) is runs) in
+      let got = loads.got in
+      let v = got.value in
+      let plain_u : root_length u pair.other ≡ None = root_by s u pair.other (copies.words_of pair.other fits.1 none) ∙ plain in
+      let at_first : index_of i ≡ i =
+      small_index m j pair.other i got.name host (omega (arith, other, one, two, room)) got.held (slice_get_within (refs_of (object_at u.small.graph got.name)) (index_of i) v got.there) in
+      let there : reference_at u pair.other i ≡ Some v =
+      ap (λ q. slice_get (unwrap_or (option_map (λ a. refs_of (object_at u.small.graph a)) q) []) i) got.held ∙ ap (slice_get (refs_of (object_at u.small.graph got.name))) (sym at_first) ∙ got.there in
+      record {
+        heap = loads.heap;
+        history = loads.history;
+        host = loads.host;
+        got = v;
+        by = beside_with second u (large_state loads.history) v got.after;
+        held = ap (λ (z : LargeState). register_at z.small 1 second) got.after ∙ changed_register u.small second v (all_registers m.heap j host.heap) room;
+        value = whole_at u pair.other i plain_u ∙ there;
+        rest = loads.rest;
+      }
+  source_loaded m y j k n i s host copies (of_root all is plain related) within put runs =
+      let u : LargeState = large_state j in
+      let part = load_first m y j k second pair.other (i / 1023) (load_of second second (i % 1023) ∷ put) host (subst (λ a. Runs m j (load_steps a second i ++ put) y k code.Done) is runs) in
+      let element = load_first part.heap y part.history k second second (i % 1023) put part.host part.rest in
+      let p : LargeState = large_state part.history in
+      let t : LargeState = large_state element.history in
+      let v = element.got.value in
+      let at_hand : part.got.value ≡ Some element.got.name =
+      sym (ap (λ (z : LargeState). register_at z.small 1 second) part.got.after ∙ changed_register u.small second part.got.value (all_registers m.heap j host.heap) room) ∙ element.got.held in
+      let there : slice_get (references_of u.small.graph part.got.value) (i % 1023) ≡ Some v =
+      ap (λ q. slice_get (references_of u.small.graph q) (i % 1023)) at_hand ∙ sym (ap (λ (z : LargeState). slice_get (refs_of (object_at z.small.graph element.got.name)) (i % 1023)) part.got.after) ∙ element.got.there in
+      record {
+        heap = element.heap;
+        history = element.history;
+        host = element.host;
+        got = v;
+        by = beside_on second u p t (beside_with second u p part.got.value part.got.after) (beside_with second p t v element.got.after);
+        held = ap (λ (z : LargeState). register_at z.small 1 second) element.got.after ∙ changed_register p.small second v (all_registers part.heap.heap part.history part.host.heap) room;
+        value = root_element u pair.other i all part.got.name part.got.value v (source_root n all s u plain related copies) (let below = within all plain in omega (arith, below)) part.got.held part.got.there there;
+        rest = element.rest;
+      }
+
   copy_rounds : (x y : HostHeap) (h k : List LargeItem) (n : ℕ) → IsHostOf x h → Roots (large_state h) → n ≤ count → Runs x h (in_turn (copy_steps c) n) y k code.Done → Copied n (large_state h) (large_state k)
   unfolding copies_beside
   copy_rounds x y h k zero is roots few (same, left, done) = subst (λ l. Copied zero (large_state h) (large_state l)) (sym left) (none_copied registers own at first count up pair (large_state h) roots.own_parts)
@@ -297,37 +364,31 @@ module _ (registers at first count elements all : ℕ) (pair : Pair) (own second
       let host = runs_host x m h j (in_turn (copy_steps c) n) code.Done is before in
       let copies = copy_rounds x m h j n is roots (omega (arith, few)) before in
       let less : n < count = omega (arith, few) in
-      let r = round_of up count n in
       let small = round_small up count n less in
-      let from = first + r in
-      let put : List Asked = store_steps (side.Parts pair.array own) (enters up n (at + r)) (at + r) second in
-      let part = load_first m y j k second pair.other (from / 1023) (load_of second second (from % 1023) ∷ put) host last in
-      let element = load_first part.heap y part.history k second second (from % 1023) put part.host part.rest in
-      let p : LargeState = large_state part.history in
-      let t : LargeState = large_state element.history in
-      let v = element.got.value in
-      let by = beside_on second u p t (beside_with second u p part.got.value part.got.after) (beside_with second p t v element.got.after) in
-      let at_hand : part.got.value ≡ Some element.got.name =
-      sym (ap (λ (z : LargeState). register_at z.small 1 second) part.got.after ∙ changed_register u.small second part.got.value (all_registers m.heap j host.heap) room) ∙ element.got.held in
-      let there : slice_get (references_of u.small.graph part.got.value) (from % 1023) ≡ Some v =
-      ap (λ q. slice_get (references_of u.small.graph q) (from % 1023)) at_hand ∙ sym (ap (λ (z : LargeState). slice_get (refs_of (object_at z.small.graph element.got.name)) (from % 1023)) part.got.after) ∙ element.got.there in
-      let loaded = roots.loaded in
-      let value : element_at u pair.other from ≡ Some v =
-      root_element u pair.other from all part.got.name part.got.value v (source_root n s u roots copies) (omega (arith, small, loaded)) part.got.held part.got.there there in
-      let was = sym value ∙ source_kept registers own at first (Written up at count n) (Left up at count n) (LastOf up at count n) pair s u fits copies roots.related from (source_left up at first count n refl less) in
-      let copies_t = copies_beside registers own at first (Written up at count n) (Left up at count n) (LastOf up at count n) pair s u fits copies second t (omega (arith, two)) (λ e. differs (sym e)) by in
-      at_enters s n v element.heap y element.history k roots less element.host
-      (ap (λ (z : LargeState). register_at z.small 1 second) element.got.after ∙ changed_register p.small second v (all_registers part.heap.heap part.history part.host.heap) room) copies_t was (enters up n (at + r)) refl element.rest
+      let loads = source_loaded m y j k n (first + round_of up count n) s host copies roots.source (λ all plain. let loaded = roots.loaded all plain in omega (arith, small, loaded))
+      (store_steps (side.Parts pair.array own) (enters up n (at + round_of up count n)) (at + round_of up count n) second) last in
+      let was = sym loads.value ∙ source_kept registers own at first (Written up at count n) (Left up at count n) (LastOf up at count n) pair s u fits copies second from roots.source (first + round_of up count n) (source_left up at first count n refl less) in
+      let copies_t = copies_beside registers own at first (Written up at count n) (Left up at count n) (LastOf up at count n) pair s u fits copies second (large_state loads.history) (omega (arith, two)) (λ e. differs (sym e)) loads.by in
+      at_enters s n loads.got loads.heap y loads.history k roots less loads.host loads.held copies_t was (enters up n (at + round_of up count n)) refl loads.rest
 
 -- ---- the call
 
-copied : (x m y : HostHeap) (h j k : List LargeItem) (at first count elements all : ℕ) (pair : Pair) (own : OwnRegisters) (tos froms : List (Option Name)) → IsHostOf x h → IsPair (registers_in x) pair → own_in x ≡ Some own
-    → root_length (large_state h) pair.array ≡ Some elements → root_length (large_state h) pair.other ≡ Some all → references_in (large_state h) pair.array ≡ Some tos → references_in (large_state h) pair.other ≡ Some froms
-    → HasOwnParts (large_state h) pair.array → (register_at (large_state h).small 1 pair.other ≡ register_at (large_state h).small 1 pair.array) ⊎ AreApart (large_state h) pair.array pair.other
-    → at + count ≤ min elements (1023 * length tos) → first + count ≤ min all (1023 * length froms)
-    → Runs x h (copy_checked (record { to = side.Parts pair.array own.first; at = at; from = side.Parts pair.other own.second; first = first; count = count; element = own.second })) m j code.Done
+-- the checks of what is copied from load to the second register alone
+checks_beside : (x y : HostHeap) (h k : List LargeItem) (second first count : ℕ) (pair : Pair) (s : LargeState) (from : Side) → IsHostOf x h → IsSource second pair s from → Runs x h (checks from first count) y k code.Done
+    → Beside second (large_state h) (large_state k)
+checks_beside x y h k second first count pair s from is (of_root all same plain related) runs =
+    loads_beside x y h k second (checks (side.Parts pair.other second) first count) is (checks_load pair.other second first count) (subst (λ a. Runs x h (checks a first count) y k code.Done) same runs)
+checks_beside x y h k second first count pair s from is (of_object same plain none) runs =
+    let (stays, left, done) = subst (λ a. Runs x h (checks a first count) y k code.Done) same runs in
+    subst (λ l. Beside second (large_state h) (large_state l)) (sym left) (beside_none second (large_state h))
+
+copied : (x m y : HostHeap) (h j k : List LargeItem) (at first count elements : ℕ) (pair : Pair) (own : OwnRegisters) (source : Side) (tos : List (Option Name)) → IsHostOf x h → IsPair (registers_in x) pair → own_in x ≡ Some own
+    → root_length (large_state h) pair.array ≡ Some elements → references_in (large_state h) pair.array ≡ Some tos
+    → HasOwnParts (large_state h) pair.array → IsSource own.second pair (large_state h) source
+    → at + count ≤ min elements (1023 * length tos) → first + count ≤ length (unwrap_or (elements_at (large_state h) pair.other) []) → ((all : ℕ) → root_length (large_state h) pair.other ≡ Some all → first + count ≤ all)
+    → Runs x h (copy_checked (record { to = side.Parts pair.array own.first; at = at; from = source; first = first; count = count; element = own.second })) m j code.Done
     → Runs m j (nil_of own.first ∷ nil_of own.second ∷ []) y k code.Done → (l : List LargeItem) × IsHostOf y l × HasCopiedParts (registers_in x) at first count pair (large_state h) (large_state l)
-copied x m y h j k at first count elements all pair own tos froms is fits has root plain tos_there froms_there own_parts related stored loaded ran ended =
+copied x m y h j k at first count elements pair own source tos is fits has root tos_there own_parts is_source stored there loaded ran ended =
     let registers = registers_in x in
     let few = few_registers x h is in
     let one = own_first x own has in
@@ -335,9 +396,9 @@ copied x m y h j k at first count elements all pair own tos froms is fits has ro
     let known = (own_there x own has).1 in
     let a = own.first in
     let b = own.second in
-    let cs : Copying = record { to = side.Parts pair.array a; at = at; from = side.Parts pair.other b; first = first; count = count; element = b } in
+    let cs : Copying = record { to = side.Parts pair.array a; at = at; from = source; first = first; count = count; element = b } in
     let to_checks = checks (side.Parts pair.array a) at count in
-    let from_checks = checks (side.Parts pair.other b) first count in
+    let from_checks = checks source first count in
     let (m2, l2, checked, rounds) = runs_apart x m h j (check_copy cs) (in_turn (copy_steps cs) count) ran in
     let (m1, l1, checked_to, checked_from) = runs_apart x m2 h l2 to_checks from_checks checked in
     let s : LargeState = large_state h in
@@ -347,7 +408,7 @@ copied x m y h j k at first count elements all pair own tos froms is fits has ro
     let host1 = runs_host x m1 h l1 to_checks code.Done is checked_to in
     let host2 = runs_host m1 m2 l1 l2 from_checks code.Done host1 checked_from in
     let by1 = loads_beside x m1 h l1 a to_checks is (checks_load pair.array a at count) checked_to in
-    let by2 = loads_beside m1 m2 l1 l2 b from_checks host1 (checks_load pair.other b first count) checked_from in
+    let by2 = checks_beside m1 m2 l1 l2 b first count pair s source host1 is_source checked_from in
     let apart_a : (r : ℕ) → r < registers → r ≢ a = λ r less e. omega (arith, e, one, less) in
     let apart_b : (r : ℕ) → r < registers → r ≢ b = λ r less e. omega (arith, e, two, less) in
     let array_a = apart_a pair.array fits.0 in
@@ -361,18 +422,20 @@ copied x m y h j k at first count elements all pair own tos froms is fits has ro
     let no_part_t : (r : ℕ) → r < registers → IsNoPart s pair.array r → IsNoPart t pair.array r =
     λ r less none. same_no_part b s1 t by2 pair.array r array_b (apart_b r less) (same_no_part a s s1 by1 pair.array r array_a (apart_a r less) none) in
     let many : length (unwrap_or (references_in t pair.array) []) ≡ length tos = ap (λ v. length (unwrap_or v [])) (refs_t pair.array fits.0 ∙ tos_there) in
-    let related_t : (register_at t.small 1 pair.other ≡ register_at t.small 1 pair.array) ⊎ AreApart t pair.array pair.other = elim related [
-      | inl same ↦ inl (held_t pair.other fits.1 ∙ same ∙ sym (held_t pair.array fits.0))
-      | inr are ↦ inr (same_apart b s1 t by2 pair.array pair.other array_b other_b (same_apart a s s1 by1 pair.array pair.other array_a other_a are))
+    let source_t : IsSource b pair t source = elim is_source [
+      | of_root all same plain related ↦ of_root all same (root_by s t pair.other (words_t pair.other fits.1) ∙ plain) (elim related [
+        | inl one_object ↦ inl (held_t pair.other fits.1 ∙ one_object ∙ sym (held_t pair.array fits.0))
+        | inr are ↦ inr (same_apart b s1 t by2 pair.array pair.other array_b other_b (same_apart a s s1 by1 pair.array pair.other array_a other_a are))
+      ])
+      | of_object same plain none ↦ of_object same (root_by s t pair.other (words_t pair.other fits.1) ∙ plain) (no_part_t pair.other fits.1 none)
     ] in
-    let copies = copy_rounds registers at first count elements all pair a b fits one two (omega (arith, few, known)) m2 m l2 j count host2 (record {
+    let copies = copy_rounds registers at first count elements pair a b source fits one two (omega (arith, few, known)) m2 m l2 j count host2 (record {
       root = root_by s t pair.array (words_t pair.array fits.0) ∙ root;
-      plain = root_by s t pair.other (words_t pair.other fits.1) ∙ plain;
       own_parts = same_own b s1 t by2 pair.array array_b (same_own a s s1 by1 pair.array array_a own_parts);
-      related = related_t;
+      source = source_t;
       stored = omega (arith, stored);
       inside = omega (arith, stored, many);
-      loaded = omega (arith, loaded);
+      loaded = λ all plain. loaded all (sym (root_by s t pair.other (words_t pair.other fits.1)) ∙ plain);
     }) (omega arith) rounds in
     let (n, l, before, last) = runs_apart m y j k (nil_of a ∷ []) (nil_of b ∷ []) ended in
     let host = runs_host m2 m l2 j (in_turn (copy_steps cs) count) code.Done host2 rounds in
@@ -385,14 +448,13 @@ copied x m y h j k at first count elements all pair own tos froms is fits has ro
     let element_w : (i : ℕ) → element_at w pair.array i ≡ element_at u pair.array i = λ i. same_element b w1 w off2 pair.array i array_b ∙ same_element a u w1 off1 pair.array i array_a in
     let up = nat_lt first at in
     let f = as_renamed copies.renewals in
-    let to_listed = all_listed s pair.array elements 0 tos root tos_there in
-    let from_listed = all_listed s pair.other all 0 froms plain froms_there in (
+    let to_listed = all_listed s pair.array elements 0 tos root tos_there in (
       k,
       twice.0,
       record {
         renewals = copies.renewals;
         there = omega (arith, to_listed, stored);
-        from = omega (arith, from_listed, loaded);
+        from = there;
         copied = λ i less. element_w (at + i) ∙ copies.copied i (all_written up at count i less) ∙ ap (option_map f) (element_t pair.other (first + i) fits.1);
         others = λ i out. element_w i ∙ copies.others i (none_else up at count i out) ∙ ap (option_map f) (element_t pair.array i fits.0);
         held = λ r less. off2.registers r (apart_b r less) ∙ off1.registers r (apart_a r less) ∙ copies.held r less ∙ ap f (held_t r less);
@@ -426,40 +488,87 @@ rooted_cases v root all part array end is =
     at_references None = inr (code.Nil, (λ same. cc), refl)
     at_references (Some ps) = at_room ps (nat_le end (min all (1023 * length ps))) refl
 
+module _ (x y : HostHeap) (h : List LargeItem) (at first count elements : ℕ) (pair : Pair) (is : IsHostOf x h) (fits : IsPair (registers_in x) pair) (root : root_length (large_state h) pair.array ≡ Some elements)
+    (own_parts : HasOwnParts (large_state h) pair.array) where
+  abbrev s : LargeState
+  s = large_state h
+
+  abbrev Goal : Type 0
+  Goal = (l : List LargeItem) × IsHostOf y l × HasCopiedParts (registers_in x) at first count pair s (large_state l)
+
+  abbrev to : OwnRegisters → Result Side Code
+  to own = range_held (option_map length (references_in s pair.array)) (root_length s pair.array) (Some own.first) pair.array (at + count)
+
+  abbrev from : OwnRegisters → Result Side Code
+  from own = range_held (option_map length (references_in s pair.other)) (root_length s pair.other) (Some own.second) pair.other (first + count)
+
+  -- what is copied from is there, or its code isn't that of success
+  record IsThere (own : OwnRegisters) : Type 0 where
+    source : Side
+    same : from own ≡ Ok source
+    is_source : IsSource own.second pair s source
+    there : first + count ≤ length (unwrap_or (elements_at s pair.other) [])
+    loaded : (all : ℕ) → root_length s pair.other ≡ Some all → first + count ≤ all
+
+  abbrev MayBeThere : OwnRegisters → Type 0
+  MayBeThere own = IsThere own ⊎ ((e : Code) × (e ≢ code.Done) × (from own ≡ Err e))
+
+  to_root : ((own : OwnRegisters) → MayBeThere own) → CopiesElements at first count x y h pair code.Done → Goal
+  to_root may = at_own (own_in x) refl
+    where
+      at_from : (own : OwnRegisters) → own_in x ≡ Some own → IsRooted pair.array own.first elements (at + count) (references_in s pair.array) (to own)
+          → Carries x y h (planned (copying own) (copying_by own at first count (Ok (side.Parts pair.array own.first)) (from own))) code.Done → Goal
+      at_from own has stored ran = elim (may own) [
+        | inl is_there ↦
+            let (m, j, k, did, ended) = subst (λ q. Carries x y h (planned (copying own) (copying_by own at first count (Ok (side.Parts pair.array own.first)) q)) code.Done) is_there.same ran in
+            copied x m y h j k at first count elements pair own is_there.source stored.parts is fits has root stored.there own_parts is_there.is_source stored.within is_there.there is_there.loaded did ended
+        | inr (e, failed, same) ↦
+            let wrong = subst (λ q. Carries x y h (planned (copying own) (copying_by own at first count (Ok (side.Parts pair.array own.first)) q)) code.Done) same ran in
+            absurd (failed (sym wrong.0))
+      ]
+
+      at_to : (own : OwnRegisters) → own_in x ≡ Some own → Carries x y h (planned (copying own) (copying_by own at first count (to own) (from own))) code.Done → Goal
+      at_to own has ran = elim (rooted_cases (references_in s pair.array) (root_length s pair.array) elements own.first pair.array (at + count) root) [
+        | inl stored ↦ at_from own has stored (subst (λ r. Carries x y h (planned (copying own) (copying_by own at first count r (from own))) code.Done) stored.same ran)
+        | inr (e, failed, same) ↦
+            let wrong = subst (λ r. Carries x y h (planned (copying own) (copying_by own at first count r (from own))) code.Done) same ran in
+            absurd (failed (sym wrong.0))
+      ]
+
+      at_own : (own : Option OwnRegisters) → own_in x ≡ own → Carries x y h (copy_by own s at first count pair) code.Done → Goal
+      at_own None has (told, same) = absurd (cc)
+      at_own (Some own) has ran = at_to own has ran
+
+  -- a root is there
+  root_there : (all : ℕ) → root_length s pair.other ≡ Some all → (register_at s.small 1 pair.other ≡ register_at s.small 1 pair.array) ⊎ AreApart s pair.array pair.other → (own : OwnRegisters) → MayBeThere own
+  root_there all plain related own = elim (rooted_cases (references_in s pair.other) (root_length s pair.other) all own.second pair.other (first + count) plain) [
+    | inl found ↦
+        let within = found.within in
+        let listed = all_listed s pair.other all 0 found.parts plain found.there in
+        inl (record {
+          source = side.Parts pair.other own.second;
+          same = found.same;
+          is_source = of_root all refl plain related;
+          there = omega (arith, listed, within);
+          loaded = λ others other. let same : all ≡ others = same_Some all others (sym plain ∙ other) in omega (arith, same, within);
+        })
+    | inr wrong ↦ inr wrong
+  ]
+
+  -- an object is there
+  object_there : root_length s pair.other ≡ None → IsNoPart s pair.array pair.other → (own : OwnRegisters) → MayBeThere own
+  object_there plain none own = elim (range_cases (references_in s pair.other) (root_length s pair.other) (Some own.second) pair.other (first + count) plain) [
+    | inl found ↦
+        let within = found.within in
+        let many = as_many s pair.other plain in
+        inl (record { source = side.Whole pair.other; same = found.same; is_source = of_object refl plain none; there = omega (arith, many, within); loaded = λ all other. absurd (let wrong : None ≡ Some all = sym plain ∙ other in cc) })
+    | inr wrong ↦ inr wrong
+  ]
+
 pub copies_reach_parts : CopiesReachParts
-copies_reach_parts x y h at first count elements all pair is fits root plain own_parts related carried = at_own (own_in x) refl carried
-  where
-    s : LargeState
-    s = large_state h
+copies_reach_parts x y h at first count elements all pair is fits root plain own_parts related carried =
+    to_root x y h at first count elements pair is fits root own_parts (root_there x y h at first count elements pair is fits root own_parts all plain related) carried
 
-    Goal : Type 0
-    Goal = (l : List LargeItem) × IsHostOf y l × HasCopiedParts (registers_in x) at first count pair s (large_state l)
-
-    to : OwnRegisters → Result Side Code
-    to own = range_held (option_map length (references_in s pair.array)) (root_length s pair.array) (Some own.first) pair.array (at + count)
-
-    from : OwnRegisters → Result Side Code
-    from own = range_held (option_map length (references_in s pair.other)) (root_length s pair.other) (Some own.second) pair.other (first + count)
-
-    at_from : (own : OwnRegisters) (r : Result Side Code) → own_in x ≡ Some own → IsRooted pair.array own.first elements (at + count) (references_in s pair.array) r
-        → Carries x y h (planned (copying own) (copying_by own at first count (Ok (side.Parts pair.array own.first)) (from own))) code.Done → Goal
-    at_from own r has stored ran = elim (rooted_cases (references_in s pair.other) (root_length s pair.other) all own.second pair.other (first + count) plain) [
-      | inl loaded ↦
-          let (m, j, k, did, ended) = subst (λ q. Carries x y h (planned (copying own) (copying_by own at first count (Ok (side.Parts pair.array own.first)) q)) code.Done) loaded.same ran in
-          copied x m y h j k at first count elements all pair own stored.parts loaded.parts is fits has root plain stored.there loaded.there own_parts related stored.within loaded.within did ended
-      | inr (e, failed, same) ↦
-          let wrong = subst (λ q. Carries x y h (planned (copying own) (copying_by own at first count (Ok (side.Parts pair.array own.first)) q)) code.Done) same ran in
-          absurd (failed (sym wrong.0))
-    ]
-
-    at_to : (own : OwnRegisters) → own_in x ≡ Some own → Carries x y h (planned (copying own) (copying_by own at first count (to own) (from own))) code.Done → Goal
-    at_to own has ran = elim (rooted_cases (references_in s pair.array) (root_length s pair.array) elements own.first pair.array (at + count) root) [
-      | inl stored ↦ at_from own (to own) has stored (subst (λ r. Carries x y h (planned (copying own) (copying_by own at first count r (from own))) code.Done) stored.same ran)
-      | inr (e, failed, same) ↦
-          let wrong = subst (λ r. Carries x y h (planned (copying own) (copying_by own at first count r (from own))) code.Done) same ran in
-          absurd (failed (sym wrong.0))
-    ]
-
-    at_own : (own : Option OwnRegisters) → own_in x ≡ own → Carries x y h (copy_by own s at first count pair) code.Done → Goal
-    at_own None has (told, same) = absurd (cc)
-    at_own (Some own) has ran = at_to own has ran
+pub copies_enter_parts : CopiesEnterParts
+copies_enter_parts x y h at first count elements pair is fits root plain own_parts none carried =
+    to_root x y h at first count elements pair is fits root own_parts (object_there x y h at first count elements pair is fits root own_parts plain none) carried

@@ -64,6 +64,7 @@ doing_done : (r : Reply) → IsDoing r → code_of (large_reply.Small r) ≡ cod
 doing_done (reply.Loaded held) such = refl
 doing_done reply.Put such = refl
 doing_done reply.Stored such = refl
+doing_done reply.Cleared such = refl
 doing_done r such = absurd such
 
 module _ (x : HostHeap) (y : Heap) (o : Op) (quiet : IsQuiet (all_registers_in x) (large_op.Small o)) where

@@ -255,6 +255,13 @@ CopiesReachParts =
     → CopiesElements at first count x y h pair code.Done
     → (k : List LargeItem) × IsHostOf y k × HasCopiedParts (registers_in x) at first count pair (large_state h) (large_state k)
 
+-- a copy from an object to a root, whose parts are its own and none of them that object, has copied the elements where it tells success
+abbrev pub CopiesEnterParts : Type 0
+CopiesEnterParts =
+    (x y : HostHeap) (h : List LargeItem) (at first count elements : ℕ) (pair : Pair) → IsHostOf x h → IsPair (registers_in x) pair
+    → root_length (large_state h) pair.array ≡ Some elements → root_length (large_state h) pair.other ≡ None → HasOwnParts (large_state h) pair.array → IsNoPart (large_state h) pair.array pair.other
+    → CopiesElements at first count x y h pair code.Done → (k : List LargeItem) × IsHostOf y k × HasCopiedParts (registers_in x) at first count pair (large_state h) (large_state k)
+
 -- ---- new roots
 
 -- A root was made, from state s to u: its elements are nil, its parts are its own, and they are apart from each root that another register holds, as

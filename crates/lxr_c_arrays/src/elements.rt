@@ -6,7 +6,7 @@ ghost use Rattle.lxr_c_heap.specs.Hosting.{IsServing, all_registers_in};
 ghost use Rattle.lxr_c_heap.specs.Keeping.{registers_kept};
 ghost use Rattle.lxr_c_heap.specs.Looking.{Looks};
 ghost use Rattle.lxr_c_many.specs.Calling.{Does};
-ghost use Rattle.lxr_c_arrays.specs.Plans.{LoadsElement, SeesLength, StoresElement, enters as is_entered, pair_of as is_pair_of};
+ghost use Rattle.lxr_c_arrays.specs.Plans.{LoadsElement, ReachesElement, SeesLength, StoresElement, enters as is_entered, pair_of as is_pair_of};
 ghost use Rattle.lxr_c_arrays.specs.Running.{InTurn, SameRegisters};
 ghost use Rattle.lxr_c_arrays.specs.Sides.{HasIndex, IsSide, enter_steps, entering, last_of, load_steps, store_steps};
 
@@ -124,14 +124,32 @@ pub fn length(handle: &mut Handle, base: u32) -> Result<Option<u32>, Code>
     Ok(array_length(&handle.block.lend().heap, base))
 }
 
+/// Does it with an element of the array that `base` holds: that there is a heap is asked where the numbers don't fit, as none do without one.
+#[inline(always)]
+fn reach_at(
+    handle: &mut Handle,
+    access: Access,
+    base: u32,
+    other: u32,
+    index: u32,
+) -> Result<Code, Code>
+    ensures { Does (ReachesElement access index) handle.old.block.value handle.new.block.value (is_pair_of (registers_kept handle.old.block.value) base other) result }
+{
+    match pair_of(handle.registers(), base, other) {
+        Ok(pair) => Ok(reach(handle.block.lend(), access, pair, index)),
+        Err(code) => {
+            handle.found()?;
+            Err(code)
+        }
+    }
+}
+
 /// Register `dest` gets an element of the array that `base` holds.
 #[inline(always)]
 pub fn load(handle: &mut Handle, dest: u32, base: u32, index: u32) -> Result<Code, Code>
     ensures { Does (LoadsElement index) handle.old.block.value handle.new.block.value (is_pair_of (registers_kept handle.old.block.value) base dest) result }
 {
-    handle.found()?;
-    let pair = pair_of(handle.registers(), base, dest)?;
-    Ok(reach(handle.block.lend(), Access::Load, pair, index))
+    reach_at(handle, Access::Load, base, dest, index)
 }
 
 /// An element of the array that `base` holds becomes what `source` holds.
@@ -139,7 +157,5 @@ pub fn load(handle: &mut Handle, dest: u32, base: u32, index: u32) -> Result<Cod
 pub fn store(handle: &mut Handle, base: u32, index: u32, source: u32) -> Result<Code, Code>
     ensures { Does (StoresElement index) handle.old.block.value handle.new.block.value (is_pair_of (registers_kept handle.old.block.value) base source) result }
 {
-    handle.found()?;
-    let pair = pair_of(handle.registers(), base, source)?;
-    Ok(reach(handle.block.lend(), Access::Store, pair, index))
+    reach_at(handle, Access::Store, base, source, index)
 }

@@ -1,6 +1,6 @@
 //! What the elements of an array are after a call. The functions do nothing: the contract of each is a law of what the calls do.
 ghost use Rattle.lxr_c_arrays.specs.Elements.{LengthCountsElements, LoadsGiveElements, StoresReachParts, StoresReplaceElements};
-ghost use Rattle.lxr_c_arrays.specs.Elements.{ArraysKeepRegisters, CopiesReachParts, CopiesReplaceElements, FillsReachParts, FillsReplaceElements, NewElementsAreNil, NewRootsHaveNils};
+ghost use Rattle.lxr_c_arrays.specs.Elements.{ArraysKeepRegisters, CopiesEnterParts, CopiesReachParts, CopiesReplaceElements, FillsReachParts, FillsReplaceElements, NewElementsAreNil, NewRootsHaveNils};
 ghost use Rattle.lxr_c_arrays.specs.Own.{ArraysKeepNil, OwnStayNil};
 
 /// An array is as long as it has elements.
@@ -51,6 +51,12 @@ pub fn copies_replace_elements()
 /// elements, also where the ranges overlap, and changed nothing else that the host's registers refer to. The parts are its own still.
 pub fn copies_reach_parts()
     ensures { CopiesReachParts }
+{}
+
+/// A copy from an array of one object to a root that tells success, where the parts of the root are its own and that object is none of them, has
+/// copied the elements, and changed nothing else that the host's registers refer to. The parts are its own still.
+pub fn copies_enter_parts()
+    ensures { CopiesEnterParts }
 {}
 
 /// A call that makes an array of more than 1,023 elements, and tells success, has made so many, which are nil, in parts that are its own and apart

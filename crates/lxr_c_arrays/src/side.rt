@@ -1,5 +1,5 @@
 //! An array as its object has it, and which of its elements there are.
-ghost use Rattle.std.specs.Prelude.{◌≡◌, ℕ, ◌+◌, ◌<◌, ◌≤◌, IfOk, IfSome, List, Some, option_map};
+ghost use Rattle.std.specs.Prelude.{◌≡◌, ℕ, ◌+◌, ◌/◌, ◌%◌, ◌<◌, ◌≤◌, IfOk, IfSome, List, Some, option_map};
 ghost use Rattle.lxr_direct.specs.Known.{IsKnown};
 ghost use Rattle.lxr_large_model.specs.History.{LargeItem, large_state};
 ghost use Rattle.lxr_heap.specs.Holding.{IsHeapOf};
@@ -17,6 +17,24 @@ pub const PART: u32 = MOST_FIELDS as u32;
 
 /// How many elements an array has at most: as many parts as an object has references at most.
 pub const MOST_ELEMENTS: u32 = PART * PART;
+
+/// Which part of an array an element is in: `index / PART`, which is less than `PART`, in a few instructions.
+#[inline(always)]
+pub(crate) fn part_number(index: u32) -> u16
+    requires { index < MOST_ELEMENTS }
+    ensures { result ≡ index / PART }
+{
+    ((index + index / 1024 + 1) / 1024) as u16
+}
+
+/// Which of its part's elements an element is, by the number of the part: `index % PART`.
+#[inline(always)]
+pub(crate) fn index_in(index: u32, part: u16) -> u16
+    requires { part ≡ index / PART }
+    ensures { result ≡ index % PART }
+{
+    (index - PART * u32::from(part)) as u16
+}
 
 /// An array by its registers.
 #[derive(Clone, Copy, Debug, PartialEq, Eq)]

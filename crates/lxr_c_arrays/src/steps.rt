@@ -1,11 +1,11 @@
 //! One operation of a call, and what it comes to.
-ghost use Rattle.std.specs.Prelude.{◌≡◌, ◌<◌, [], ◌∷◌, IsTrue, false};
+ghost use Rattle.std.specs.Prelude.{◌≡◌, ◌≢◌, ◌<◌, [], ◌∷◌, IsTrue, false};
 ghost use Rattle.lxr_direct.specs.Known.{IsKnown};
 ghost use Rattle.lxr_layout.specs.Objects.{FitsShape};
 ghost use Rattle.lxr_c_base.specs.declared.codes.Code.TheVariants.{Done};
 ghost use Rattle.lxr_c_heap.specs.Hosting.{IsServing, all_registers_in};
 ghost use Rattle.lxr_c_arrays.specs.Operations.{load_of, move_of, new_of, nil_of, put_of, store_of};
-ghost use Rattle.lxr_c_arrays.specs.Running.{InTurn, SameRegisters};
+ghost use Rattle.lxr_c_arrays.specs.Running.{InPlan, InTurn, SameRegisters};
 
 use lxr_c_base::{Code, code_of};
 use lxr_c_heap::HostHeap;
@@ -68,18 +68,27 @@ fn load_aside(heap: &mut HostHeap, dest: u8, base: u8, index: u16) -> Code
     code_of(heap.reply(LargeOp::Small(Op::Load { dest, base, index })))
 }
 
-/// Register `dest` gets a reference of an object that was looked up.
+/// Register `dest` gets a reference of what a reference of an object refers to that was looked up, by way of the register `own`, where it is there and
+/// `own` is nil. Whether it did.
 #[inline(always)]
-pub(crate) fn load_from(heap: &mut HostHeap, dest: u8, object: HeldObject, index: u16)
+pub(crate) fn try_load_through(
+    heap: &mut HostHeap,
+    dest: u8,
+    object: HeldObject,
+    at: u16,
+    index: u16,
+    own: u8,
+) -> bool
     requires serving { IsServing heap.old }
-    requires registers { (dest < all_registers_in heap.old) × (object.register < all_registers_in heap.old) }
+    requires registers { (dest < all_registers_in heap.old) × (object.register < all_registers_in heap.old) × (own < all_registers_in heap.old) }
+    requires apart { dest ≢ own }
     requires known { IsKnown heap.old.heap.space 1 object }
-    requires index { index < object.base.shape.refs }
-    ensures runs { InTurn heap.old (load_of dest object.register index ∷ []) heap.new Done }
+    ensures plan { IsTrue result → InPlan heap.old (record { steps = load_of own object.register at ∷ load_of dest own index ∷ []; last = nil_of own ∷ [] }) heap.new Done }
+    ensures unchanged { result ≡ false → heap.new ≡ heap.old }
     ensures same { SameRegisters heap.old heap.new }
     ensures serving { IsServing heap.new }
 {
-    heap.heap.load_from(dest, object, index);
+    heap.heap.try_load_through(dest, object, at, index, own)
 }
 
 /// A reference of what `base` holds becomes what `source` holds, where nothing stands against it. Whether it did.
@@ -93,6 +102,29 @@ pub(crate) fn try_store(heap: &mut HostHeap, base: u8, index: u16, source: u8) -
     ensures serving { IsServing heap.new }
 {
     heap.try_store(base, u32::from(index), source)
+}
+
+/// A reference of what a reference of an object refers to that was looked up becomes what `source` holds, by way of the register `own`, where nothing
+/// stands against it and `own` is nil. Whether it did.
+#[inline(always)]
+pub(crate) fn try_store_through(
+    heap: &mut HostHeap,
+    object: HeldObject,
+    at: u16,
+    index: u16,
+    source: u8,
+    own: u8,
+) -> bool
+    requires serving { IsServing heap.old }
+    requires registers { (source < all_registers_in heap.old) × (object.register < all_registers_in heap.old) × (own < all_registers_in heap.old) }
+    requires apart { source ≢ own }
+    requires known { IsKnown heap.old.heap.space 1 object }
+    ensures plan { IsTrue result → InPlan heap.old (record { steps = load_of own object.register at ∷ store_of own index source ∷ []; last = nil_of own ∷ [] }) heap.new Done }
+    ensures unchanged { result ≡ false → heap.new ≡ heap.old }
+    ensures same { SameRegisters heap.old heap.new }
+    ensures serving { IsServing heap.new }
+{
+    heap.try_store_through(object, at, index, source, own)
 }
 
 /// A reference of what `base` holds becomes what `source` holds.

@@ -41,7 +41,7 @@ use Rattle.lxr_c_heap.specs.Pacing.{IsReached, bytes_by, due_after, lesser, pace
 use Rattle.lxr_c_heap.specs.Rooms.{free_in, room_after, room_limit}
 use Rattle.lxr_layout.specs.declared.TheConstants.{LEAST_REGISTERS}
 use Rattle.lxr_c_heap.specs.declared.settings.TheConstants.{OWN_REGISTERS}
-use Rattle.lxr_c_heap.specs.Settings.{AreSettings, registers_of, room_of, with_own, work_said}
+use Rattle.lxr_c_heap.specs.Settings.{AreSettings, registers_of, room_of, sizes_of, with_own, work_said}
 use Rattle.lxr_c_base.specs.Requests.{IsQuiet}
 use Rattle.lxr_c_heap.proofs.OperationLemmas.{quiet_makes, quiet_may}
 use Rattle.lxr_c_heap.proofs.PacingLemmas.{bytes_bound, bytes_few, paused_host, quiet_bytes, renewed_host, replied_host, sliced_host, still_named, worked_host, written_bytes}
@@ -192,11 +192,11 @@ module _ (heap : Heap) (wanted : Settings) (seal : Seal) where
   opened_anew named pace room limit brink work = opened_by named pace room limit brink work (first_slice work 0 limit) (turn_of (first_slice work 0 limit) limit brink)
 
   -- a heap that was opened has its pace and its room from the first object on
-  pub opened_with : (named : ℕ) (pace : Pace) (room : Room) (limit brink : Option ℕ) (work : ℕ) (slice : Option ℕ) (turn : ℕ) → IsOpenedHeap heap wanted.blocks wanted.body_blocks (with_own named)
+  pub opened_with : (named : ℕ) (pace : Pace) (room : Room) (limit brink : Option ℕ) (work : ℕ) (slice : Option ℕ) (turn : ℕ) → IsOpenedHeap heap (sizes_of wanted)
       → named ≡ registers_of wanted → pace ≡ pace_of wanted.pace → room ≡ room_of wanted → limit ≡ due_after pace room (free_in heap) → brink ≡ room_limit room (free_in heap) → work ≡ work_said wanted → slice ≡ first_slice work 0 limit
       → turn ≡ turn_of slice limit brink → IsOpened (opened_by named pace room limit brink work slice turn) wanted
   opened_with named pace room limit brink work slice turn opened same is has within edged does sliced turned = record {
-    heap = subst (λ n. IsOpenedHeap heap wanted.blocks wanted.body_blocks (with_own n)) same opened;
+    heap = opened;
     rest = ap (opened_by named pace room limit brink work slice) turned
         ∙ ap (λ (s : Option ℕ). opened_by named pace room limit brink work s (turn_of s limit brink)) sliced
         ∙ ap (opened_anew named pace room limit brink) does

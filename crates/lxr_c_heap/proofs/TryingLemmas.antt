@@ -89,6 +89,7 @@ pub doing_zero : (r : Reply) → IsDoing r → 0 ≡ answered (Ok (large_reply.S
 doing_zero (reply.Loaded held) such = refl
 doing_zero reply.Put such = refl
 doing_zero reply.Stored such = refl
+doing_zero reply.Cleared such = refl
 doing_zero r such = absurd such
 
 module _ (x : HostHeap) (y : Heap) (o : Op) (quiet : IsQuiet (all_registers_in x) (large_op.Small o)) where

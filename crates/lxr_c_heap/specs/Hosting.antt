@@ -18,7 +18,7 @@ use Rattle.lxr_layout.specs.declared.TheConstants.{LEAST_REGISTERS}
 use Rattle.lxr_c_heap.specs.declared.settings.TheConstants.{OWN_REGISTERS}
 use Rattle.lxr_c_heap.specs.Pacing.{IsReached, bytes_by, bytes_made, due_after, pace_of}
 use Rattle.lxr_c_heap.specs.Rooms.{free_in, is_exceeded, room_after, room_limit}
-use Rattle.lxr_c_heap.specs.Settings.{registers_of, room_of, with_own, work_said}
+use Rattle.lxr_c_heap.specs.Settings.{registers_of, room_of, sizes_of, work_said}
 use Rattle.lxr_c_heap.specs.Working.{IsTimed, WorksWhere, first_slice, turn_of}
 
 -- ---- a heap that serves
@@ -64,7 +64,7 @@ brink_first x s = room_limit (room_of s) (free_in x.heap)
 
 -- a heap that was opened with settings: of their blocks and registers, and with their pace and room from the first object on
 pub record IsOpened (x : HostHeap) (s : Settings) : Type 0 where
-  pub heap : IsOpenedHeap x.heap s.blocks s.body_blocks (with_own (registers_of s))
+  pub heap : IsOpenedHeap x.heap (sizes_of s)
   pub rest : x ≡ record {
     heap = x.heap;
     named = registers_of s;

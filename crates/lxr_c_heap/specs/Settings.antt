@@ -1,10 +1,11 @@
 -- The settings of a heap: which sizes are known, the ranges of their numbers, and the room that they say.
 use Rattle.std.specs.Prelude.{◌≡◌, ℕ, ◌+◌, ◌≤◌, ◌==◌, ◌⊎◌, nat_le, ◌||◌, Bool, if◌then◌else◌}
 use Rattle.lxr_layout.specs.declared.TheConstants.{LEAST_REGISTERS, MOST_BLOCKS, REGISTERS}
+use Rattle.lxr_heap.specs.declared.opening.Sizes.{Sizes}
 use Rattle.lxr_c_heap.specs.declared.settings.Settings.{Settings}
 use Rattle.lxr_c_heap.specs.declared.room.Room.{Room}
 use Rattle.lxr_c_heap.specs.declared.room.TheConstants.{MOST_GROW}
-use Rattle.lxr_c_heap.specs.declared.settings.TheConstants.{FIRST_SETTINGS_BYTES, OWN_REGISTERS, SECOND_SETTINGS_BYTES, SETTINGS_BYTES, THIRD_SETTINGS_BYTES}
+use Rattle.lxr_c_heap.specs.declared.settings.TheConstants.{FIRST_SETTINGS_BYTES, LOG_ENTRIES, OWN_REGISTERS, SECOND_SETTINGS_BYTES, SETTINGS_BYTES, THIRD_SETTINGS_BYTES}
 use Rattle.lxr_c_heap.specs.declared.working.TheConstants.{MOST_WORK}
 use Rattle.lxr_c_heap.specs.Rooms.{blocks_said}
 
@@ -27,6 +28,10 @@ registers_of s = if s.size == FIRST_SETTINGS_BYTES then LEAST_REGISTERS else (if
 -- how many registers a heap has whose host names so many: behind them the library has two of its own, where there is room for both
 abbrev pub with_own : ℕ → ℕ
 with_own named = if nat_le (named + OWN_REGISTERS) REGISTERS then named + OWN_REGISTERS else named
+
+-- how large a heap of settings is: its log has as many entries as that of any other
+abbrev pub sizes_of : Settings → Sizes
+sizes_of s = record { blocks = s.blocks; bodies = s.body_blocks; registers = with_own (registers_of s); log = LOG_ENTRIES }
 
 -- settings of these sizes say a room
 abbrev pub says_room : Settings → Bool

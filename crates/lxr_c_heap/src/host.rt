@@ -14,7 +14,7 @@ ghost use Rattle.lxr_c_base.specs.Requests.{IsMaking, IsQuiet, IsStoring};
 
 use crate::pacing::{Pace, bytes_of, due_after, is_reached};
 use crate::room::{MOST_GROW, Room};
-use crate::settings::{Settings, with_own};
+use crate::settings::Settings;
 use crate::working::{
     MOST_WORK, SLICE_PARTS, first_slice, has_more, slice_after, slice_from, sooner, turn_of,
 };
@@ -73,12 +73,7 @@ impl HostHeap {
         ensures serving { IfOk result IsServing }
     {
         let named = wanted.registers();
-        let heap = LargeHeap::open(
-            alloc,
-            wanted.blocks,
-            wanted.body_blocks,
-            with_own(named) as u16,
-        )?;
+        let heap = LargeHeap::open(alloc, wanted.sizes())?;
         let pace = Pace::of(wanted.pace);
         let room = Room::of(wanted);
         let work = wanted.work_said();
@@ -150,7 +145,7 @@ impl HostHeap {
 
     /// Whether it has made as many objects, or as many pauses, as it makes before it is renewed.
     #[inline(always)]
-    fn is_at_end(&self, ends: Ends) -> bool
+    pub(crate) fn is_at_end(&self, ends: Ends) -> bool
         ensures { IsTrue result ↔ IsAtEnd ends self.now }
     {
         self.heap.made() >= ends.made || self.heap.pauses() >= ends.pauses

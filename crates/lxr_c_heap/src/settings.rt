@@ -1,10 +1,12 @@
 //! What a program in C says of a heap for one thread.
 ghost use Rattle.std.specs.Prelude.{◌≡◌, ◌↔◌, ◌≤◌, IsTrue};
 ghost use Rattle.lxr_layout.specs.declared.TheConstants.{REGISTERS as MOST_REGISTERS};
-ghost use Rattle.lxr_c_heap.specs.Settings.{AreSettings, IsBlockCount, IsKnownSize, IsRegisterCount, grow_said as is_grow_said, registers_of, room_said as is_room_said, says_room, with_own as is_with_own, work_said as is_work_said};
+ghost use Rattle.lxr_heap.specs.Holding.{AreSizes};
+ghost use Rattle.lxr_c_heap.specs.Settings.{AreSettings, IsBlockCount, IsKnownSize, IsRegisterCount, grow_said as is_grow_said, registers_of, room_said as is_room_said, says_room, sizes_of, with_own as is_with_own, work_said as is_work_said};
 
 use crate::room::MOST_GROW;
 use crate::working::MOST_WORK;
+use lxr_heap::Sizes;
 use lxr_layout::{LEAST_REGISTERS, MOST_BLOCKS, REGISTERS};
 
 /// The bytes of the settings that are known: of later versions this is the least size but for those of before, and what a shorter one
@@ -22,6 +24,10 @@ pub const FIRST_SETTINGS_BYTES: u64 = 24;
 
 /// How many registers of its own the library has behind those that the host names, where there is room for them.
 pub const OWN_REGISTERS: u32 = 2;
+
+/// How many overwritten references a heap records between two pauses at most. So many counts may wait to be lowered, and one for each register:
+/// an object has 1,023 references at most, so four have place there, each held by the one before.
+pub const LOG_ENTRIES: u32 = 4_096;
 
 /// The settings of a heap, as `lxr_settings` has them: how many bytes they are, how many blocks the heap has, and for bodies, after how
 /// many bytes of new objects a plain pause is due, how many registers it has, its room, and what it does between pauses. What stands after so
@@ -62,7 +68,7 @@ fn is_register_count(count: u32) -> bool
 }
 
 /// How many registers a heap has whose host names so many: the library's own are behind them, where there is room.
-pub(crate) fn with_own(named: u32) -> u32
+fn with_own(named: u32) -> u32
     requires { named ≤ MOST_REGISTERS }
     ensures own { result ≡ is_with_own named }
     ensures fits { (named ≤ result) × (result ≤ MOST_REGISTERS) }
@@ -130,6 +136,20 @@ impl Settings {
             return self.work;
         }
         0
+    }
+
+    /// How large a heap of these settings is.
+    pub(crate) fn sizes(&self) -> Sizes
+        requires { AreSettings self.now }
+        ensures sizes { result ≡ sizes_of self.now }
+        ensures fit { AreSizes result }
+    {
+        Sizes {
+            blocks: self.blocks,
+            bodies: self.body_blocks,
+            registers: with_own(self.registers()) as u16,
+            log: LOG_ENTRIES,
+        }
     }
 
     /// Whether there is such room in such heaps.

@@ -12,4 +12,5 @@ pub mod HostLemmas
 pub mod WantedLemmas
 pub mod MakingLemmas
 pub mod ApplyLemmas
+pub mod EntryLemmas
 pub mod CallLemmas

@@ -26,7 +26,6 @@ use Rattle.lxr_direct.specs.declared.known.HeldObject.{HeldObject}
 use Rattle.lxr_direct.specs.Known.{IsKnown}
 use Rattle.lxr_direct.specs.Recording.{is_unlogged}
 use Rattle.lxr_large_model.specs.History.{LargeItem, Renewed, large_moment, large_state}
-use Rattle.lxr_large_model.specs.Pauses.{most_logged}
 use Rattle.lxr_heap.specs.declared.heap.Heap.{Heap}
 use Rattle.lxr_heap.specs.Holding.{IsHeapOf, abstract_of}
 use Rattle.lxr_blocks.specs.Masks.{one_if}
@@ -41,13 +40,18 @@ use Rattle.lxr_c_many.proofs.RecordLemmas.{as_many}
 
 -- ---- bits
 
+at_most_one : (b : Bool) → one_if b ≤ 1
+at_most_one true = omega arith
+at_most_one false = omega arith
+
 pub bits_few : (bits : ℕ → Bool) (place first count : ℕ) → unlogged_bits bits place first count ≤ count
 bits_few bits place first zero = omega arith
-bits_few bits place first (suc count) = let rest = bits_few bits place first count in let one = at_most (bits (field_word place (first + count))) in omega (arith, rest, one)
-  where
-    at_most : (b : Bool) → one_if b ≤ 1
-    at_most true = omega arith
-    at_most false = omega arith
+bits_few bits place first (suc count) = let rest = bits_few bits place first count in let one = at_most_one (bits (field_word place (first + count))) in omega (arith, rest, one)
+
+-- as many as there are references at most
+pub to_record_few : (m : Moment) (held : Option Name) (first count : ℕ) → to_record m held first count ≤ count
+to_record_few m held first zero = omega arith
+to_record_few m held first (suc count) = let rest = to_record_few m held first count in let one = at_most_one (is_to_record m held (first + count)) in omega (arith, rest, one)
 
 pub bits_more : (bits : ℕ → Bool) (place first i : ℕ) → unlogged_bits bits place first (i + 1) ≡ unlogged_bits bits place first i + one_if (bits (field_word place (first + i)))
 bits_more bits place first i = let next : i + 1 ≡ suc i = omega arith in ap (unlogged_bits bits place first) next
@@ -223,15 +227,15 @@ settled_references ends x y h k base most (inr (none, left, same)) has_refs = su
 -- ---- before the stores
 
 -- where the log is short, a pause empties it
-pub paused_may : (y : HostHeap) (k : List LargeItem) (base first count : ℕ) → first + count ≤ 1023 → HasReferences (large_state k) base (first + count) → MayBeStored (behind_pause y k) base first count
-paused_may y k base first count few has_refs = record {
+pub paused_may : (y : HostHeap) (k : List LargeItem) (base first count : ℕ) → IsHeapOf y.heap (behind_pause y k) → first + count ≤ 1023 → HasReferences (large_state k) base (first + count) → MayBeStored y.heap (behind_pause y k) base first count
+paused_may y k base first count is few has_refs = record {
   there = has_refs;
-  room = let all = as_many (large_moment (behind_pause y k)) (register_at (large_moment (behind_pause y k)).state 1 base) first count in omega (arith, few, all);
+  room = let all = as_many (large_moment (behind_pause y k)) (register_at (large_moment (behind_pause y k)).state 1 base) first count in let most = is.log in omega (arith, few, all, most);
 }
 
 -- where it isn't, there is room
-pub long_may : (k : List LargeItem) (base first count : ℕ) → ¬ LogIsShort k base first count → HasReferences (large_state k) base (first + count) → MayBeStored k base first count
-long_may k base first count not has_refs = record {
+pub long_may : (x : Heap) (k : List LargeItem) (base first count : ℕ) → ¬ LogIsShort x k base first count → HasReferences (large_state k) base (first + count) → MayBeStored x k base first count
+long_may x k base first count not has_refs = record {
   there = has_refs;
-  room = elim (cases_lt most_logged (length (large_moment k).written + to_record (large_moment k) (register_at (large_moment k).state 1 base) first count)) [ inl short ↦ absurd (not short) | inr fits ↦ fits ];
+  room = elim (cases_lt x.space.limits.log (length (large_moment k).written + to_record (large_moment k) (register_at (large_moment k).state 1 base) first count)) [ inl short ↦ absurd (not short) | inr fits ↦ fits ];
 }

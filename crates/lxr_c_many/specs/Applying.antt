@@ -97,6 +97,11 @@ PerformsEntry x h e y k told = (a : Asked) × (asked_of (registers_in x) e ≡ O
 abbrev pub with_told : Operation → Told → Operation
 with_told e told = record e { word = written_over e.word told.word }
 
+-- What an entry asks for was done, of whatever history the heap is: f is the entry after it, with the word that was told, and this is the code.
+abbrev pub PerformsAt : HostHeap → Operation → HostHeap → Operation → Code → Type 0
+PerformsAt x e y f code =
+    (told : Told) × (code ≡ told.code) × (f ≡ with_told e told) × ((h : List LargeItem) → IsHostOf x h → (k : List LargeItem) × PerformsEntry x h e y k told)
+
 -- ---- operations in turn
 
 -- Entries were done in turn, up to the first whose code isn't that of success: what each told, the code of the last, and how many were done with

@@ -48,7 +48,7 @@ pub record StoresAll (first : ℕ) (sources : List ℕ) (x y : HostHeap) (h : Li
   pub settles : Settles x h settled settled_history
   pub paused : HostHeap
   pub paused_history : List LargeItem
-  pub pauses : PausesWhere (LogIsShort settled_history base first (length sources)) false settled settled_history paused paused_history
+  pub pauses : PausesWhere (LogIsShort settled.heap settled_history base first (length sources)) false settled settled_history paused paused_history
   pub follows : Follows paused paused_history y (newest_first (store_of base) first sources)
 
 -- References from an index on were stored to, all or none. Where there are none to be stored, nothing has changed.

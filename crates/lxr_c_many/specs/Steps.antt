@@ -4,8 +4,8 @@ use Rattle.lxr_layout.specs.declared.Name.{Name}
 use Rattle.lxr_graph.specs.Names.{has}
 use Rattle.lxr_graph.specs.State.{object_at, refs_of, register_at, values_of}
 use Rattle.lxr_large_model.specs.History.{LargeItem, large_moment, large_state}
-use Rattle.lxr_large_model.specs.Pauses.{most_logged}
 use Rattle.lxr_large_model.specs.State.{LargeState}
+use Rattle.lxr_heap.specs.declared.heap.Heap.{Heap}
 use Rattle.lxr_c_heap.specs.declared.host.HostHeap.{HostHeap}
 use Rattle.lxr_c_heap.specs.Hosting.{IsHostOf, PausesWhere, Settles}
 use Rattle.lxr_c_many.specs.Recording.{LogIsShort, to_record}
@@ -22,10 +22,10 @@ pub record HasReferences (s : LargeState) (base most : ℕ) : Type 0 where
   pub held : register_at s.small 1 base ≡ Some name
   pub within : most ≤ length (refs_of (object_at s.small.graph name))
 
--- so many references from an index on may be stored to: they are there, and the log has room for what these stores record
-pub record MayBeStored (h : List LargeItem) (base first count : ℕ) : Type 0 where
+-- so many references from an index on may be stored to: they are there, and the heap's log has room for what these stores record
+pub record MayBeStored (x : Heap) (h : List LargeItem) (base first count : ℕ) : Type 0 where
   pub there : HasReferences (large_state h) base (first + count)
-  pub room : length (large_moment h).written + to_record (large_moment h) (register_at (large_moment h).state 1 base) first count ≤ most_logged
+  pub room : length (large_moment h).written + to_record (large_moment h) (register_at (large_moment h).state 1 base) first count ≤ x.space.limits.log
 
 -- a register holds an object that was made since the last pause, with so many references and so many data words
 pub record HoldsYoung (h : List LargeItem) (base refs values : ℕ) : Type 0 where
@@ -40,6 +40,6 @@ pub record PausesForStores (base first count : ℕ) (x y : HostHeap) (h : List L
   pub settled_history : List LargeItem
   pub settles : Settles x h settled settled_history
   pub history : List LargeItem
-  pub pauses : PausesWhere (LogIsShort settled_history base first count) false settled settled_history y history
+  pub pauses : PausesWhere (LogIsShort settled.heap settled_history base first count) false settled settled_history y history
   pub holds : IsHostOf y history
-  pub ready : MayBeStored history base first count
+  pub ready : MayBeStored y.heap history base first count

@@ -5,9 +5,10 @@ ghost use Rattle.lxr_c_base.specs.Codes.{flag as is_flag};
 ghost use Rattle.lxr_c_heap.specs.Hosting.{IsHostOf, IsServing, all_registers_in, registers_in};
 ghost use Rattle.lxr_c_many.specs.declared.applying.Told.{Told as ToldOf};
 ghost use Rattle.lxr_c_many.specs.Applying as applying;
-ghost use Rattle.lxr_c_many.specs.Applying.{AllAsk, Applies, AppliesAll, Asks, MayBeAsked, Performs, PerformsEntry, all_told, with_told};
+ghost use Rattle.lxr_c_many.specs.Applying.{AllAsk, Applies, AppliesAll, MayBeAsked, Performs, all_told};
 
-use crate::asked::{Asked, Operation, asked_of, look_over};
+use crate::asked::{Asked, Operation, look_over};
+use crate::entries::perform_at;
 use lxr_c_base::{Code, code_of};
 use lxr_c_heap::{Handle, HostHeap};
 use lxr_graph::Reply;
@@ -29,7 +30,7 @@ pub struct Applied {
 
 /// A test as a word.
 #[inline(always)]
-fn flag(test: bool) -> u64
+pub(crate) fn flag(test: bool) -> u64
     ensures { result ≡ is_flag test }
 {
     if test { 1 } else { 0 }
@@ -49,7 +50,7 @@ pub fn word_of(reply: LargeReply) -> Option<u64>
 
 /// What a reply tells.
 #[inline(always)]
-fn told_by(reply: LargeReply) -> Told
+pub(crate) fn told_by(reply: LargeReply) -> Told
     ensures { result ≡ applying.told_by reply }
 {
     Told {
@@ -77,28 +78,6 @@ pub fn perform(heap: &mut HostHeap, asked: Asked) -> Told
             code: Code::Done,
             word: Some(flag(heap.heap.is_nil(register))),
         },
-    }
-}
-
-/// Does what an entry asks for, and writes the word that this tells into it.
-#[inline(always)]
-fn perform_at(heap: &mut HostHeap, entry: &mut Operation) -> Code
-    requires serving { IsServing heap.old }
-    requires asks { Asks (registers_in heap.old) entry.old }
-    ensures performs { (told : ToldOf) × (result ≡ told.code) × (entry.new ≡ with_told entry.old told)
-        × ((h : List LargeItem) → IsHostOf heap.old h → (k : List LargeItem) × PerformsEntry heap.old h entry.old heap.new k told) }
-    ensures registers { registers_in heap.new ≡ registers_in heap.old }
-    ensures serving { IsServing heap.new }
-{
-    match asked_of(heap.named, *entry) {
-        Err(_) => unreachable!(),
-        Ok(asked) => {
-            let told = perform(heap, asked);
-            if let Some(word) = told.word {
-                entry.word = word;
-            }
-            told.code
-        }
     }
 }
 

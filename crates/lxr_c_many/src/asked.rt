@@ -1,8 +1,8 @@
 //! What an entry of a list of operations asks for.
-ghost use Rattle.std.specs.Prelude.{◌≡◌, ◌≤◌, IfOk};
+ghost use Rattle.std.specs.Prelude.{◌≡◌, ◌≤◌, Err, IfErr, IfOk};
 ghost use Rattle.lxr_layout.specs.declared.TheConstants.{REGISTERS};
 ghost use Rattle.lxr_c_many.specs.Applying as applying;
-ghost use Rattle.lxr_c_many.specs.Applying.{AllAsk, MayBeAsked};
+ghost use Rattle.lxr_c_many.specs.Applying.{AllAsk, Asks, MayBeAsked};
 
 use lxr_c_base::Code;
 use lxr_c_base::requests::{self, register_of};
@@ -57,15 +57,33 @@ pub(crate) fn asked_of(registers: u16, entry: Operation) -> Result<Asked, Code>
     }
 }
 
+/// What is wrong with the numbers of an entry, if anything is. Where all are below that of the registers they fit, whatever it asks for, since an
+/// object may have more fields than there are registers: so most entries are looked at without asking which operation it is.
+#[inline(always)]
+fn look_at(registers: u16, entry: &Operation) -> Result<(), Code>
+    requires { registers ≤ REGISTERS }
+    ensures asks { IfOk result (λ fits. Asks registers entry.now) }
+    ensures refused { IfErr result (λ refused. applying.asked_of registers entry.now ≡ Err refused) }
+{
+    let most = u32::from(registers);
+    if entry.op <= 8 && entry.a < most && entry.b < most && entry.c < most {
+        return Ok(());
+    }
+    match asked_of(registers, *entry) {
+        Err(code) => Err(code),
+        Ok(_) => Ok(()),
+    }
+}
+
 /// Whether all entries ask for something; else what is wrong with the first that doesn't.
 pub(crate) fn look_over(registers: u16, entries: &[Operation]) -> Result<(), Code>
     requires { registers ≤ REGISTERS }
     ensures { AllAsk registers entries.now result }
 {
     for entry in entries {
-        match asked_of(registers, *entry) {
+        match look_at(registers, entry) {
             Err(code) => return Err(code),
-            Ok(_) => {}
+            Ok(()) => {}
         }
     }
     Ok(())

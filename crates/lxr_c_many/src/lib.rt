@@ -5,6 +5,7 @@
 mod applying;
 mod asked;
 mod clearing;
+mod entries;
 mod fields;
 mod log;
 mod making;

@@ -15,6 +15,14 @@ use lxr_heap::LargeHeap;
 use lxr_image::Space;
 use lxr_layout::{Place, field_word};
 
+/// How many records the log may have.
+#[inline(always)]
+fn most_logged(space: &Space) -> u64
+    ensures { result ≡ space.now.limits.threads * space.now.limits.log }
+{
+    u64::from(space.limits.threads) * u64::from(space.limits.log)
+}
+
 /// One for a reference that has to be recorded before it is stored to, and none for another.
 fn one_if_unlogged(space: &Space, at: u32) -> u32
     requires space { IsSpace space.now }
@@ -39,20 +47,37 @@ fn count_to_record(space: &Space, place: Place, first: u16, count: u16) -> u32
     found
 }
 
-/// Whether the log has no room for what stores to these references record.
-fn log_is_short(heap: &LargeHeap, base: u8, first: u16, count: u16) -> bool
+/// Whether the log has no room for what stores to these references record, where it has none for a record of each.
+#[cold]
+#[inline(never)]
+fn finds_log_short(heap: &LargeHeap, base: u8, first: u16, count: u16) -> bool
     requires few { first + count < 2 ^ 16 }
     requires there { ∥ ((h : List LargeItem) × IsHeapOf heap.now h × HasReferences (large_state h) base (first + count)) ∥₁ }
-    ensures { (h : List LargeItem) → IsHeapOf heap.now h → HasReferences (large_state h) base (first + count) → IsTrue result ↔ LogIsShort h base first count }
+    ensures { (h : List LargeItem) → IsHeapOf heap.now h → HasReferences (large_state h) base (first + count) → IsTrue result ↔ LogIsShort heap.now h base first count }
 {
     let space = heap.space();
     let place = space.registers.at(usize::from(base));
     let wanted = u64::from(count_to_record(space, place, first, count));
-    let most = u64::from(space.limits.threads) * u64::from(space.limits.log);
-    most < space.logged.len() as u64 + wanted
+    most_logged(space) < space.logged.len() as u64 + wanted
+}
+
+/// Whether the log has no room for what stores to these references record.
+#[inline(always)]
+fn log_is_short(heap: &LargeHeap, base: u8, first: u16, count: u16) -> bool
+    requires few { first + count < 2 ^ 16 }
+    requires there { ∥ ((h : List LargeItem) × IsHeapOf heap.now h × HasReferences (large_state h) base (first + count)) ∥₁ }
+    ensures { (h : List LargeItem) → IsHeapOf heap.now h → HasReferences (large_state h) base (first + count) → IsTrue result ↔ LogIsShort heap.now h base first count }
+{
+    let space = heap.space();
+    let logged = space.logged.len() as u64;
+    if logged + u64::from(count) <= most_logged(space) {
+        return false;
+    }
+    finds_log_short(heap, base, first, count)
 }
 
 /// Settles before stores to these references, and makes a plain pause where the log has no room for what they record.
+#[inline(always)]
 pub(crate) fn pause_for_stores(heap: &mut HostHeap, base: u8, first: u16, count: u16)
     requires serving { IsServing heap.old }
     requires few { first + count < 2 ^ 16 }

@@ -47,8 +47,8 @@ fn store_all(heap: &mut HostHeap, object: HeldObject, first: u16, sources: &[u32
     requires there { first + length sources.now ≤ object.base.shape.refs }
     requires few { first + length sources.now < 2 ^ 16 }
     requires sources { IsTrue (are_registers (registers_in heap.old) sources.now) }
-    requires ready { ∥ ((h : List LargeItem) × IsHeapOf heap.old.heap h × MayBeStored h object.register first (length sources.now)) ∥₁ }
-    ensures follows { (h : List LargeItem) → IsHeapOf heap.old.heap h → MayBeStored h object.register first (length sources.now)
+    requires ready { ∥ ((h : List LargeItem) × IsHeapOf heap.old.heap h × MayBeStored heap.old.heap h object.register first (length sources.now)) ∥₁ }
+    ensures follows { (h : List LargeItem) → IsHeapOf heap.old.heap h → MayBeStored heap.old.heap h object.register first (length sources.now)
         → Follows heap.old h heap.new (newest_first (store_of object.register) first sources.now) }
     ensures registers { registers_in heap.new ≡ registers_in heap.old }
     ensures serving { IsServing heap.new }
@@ -86,8 +86,8 @@ fn store_behind(heap: &mut HostHeap, base: u8, first: u16, sources: &[u32])
     requires base { base < registers_in heap.old }
     requires few { first + length sources.now < 2 ^ 16 }
     requires sources { IsTrue (are_registers (registers_in heap.old) sources.now) }
-    requires ready { ∥ ((h : List LargeItem) × IsHeapOf heap.old.heap h × MayBeStored h base first (length sources.now)) ∥₁ }
-    ensures follows { (h : List LargeItem) → IsHeapOf heap.old.heap h → MayBeStored h base first (length sources.now)
+    requires ready { ∥ ((h : List LargeItem) × IsHeapOf heap.old.heap h × MayBeStored heap.old.heap h base first (length sources.now)) ∥₁ }
+    ensures follows { (h : List LargeItem) → IsHeapOf heap.old.heap h → MayBeStored heap.old.heap h base first (length sources.now)
         → Follows heap.old h heap.new (newest_first (store_of base) first sources.now) }
     ensures registers { registers_in heap.new ≡ registers_in heap.old }
     ensures serving { IsServing heap.new }

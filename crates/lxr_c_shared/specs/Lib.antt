@@ -4,3 +4,4 @@ pub mod Sharing
 pub mod Passing
 pub mod Crossing
 pub mod Ending
+pub mod Trimming

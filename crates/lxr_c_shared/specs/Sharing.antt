@@ -118,10 +118,10 @@ abbrev pub ResumesHeap : Owned → Owned → Code → Type 0
 ResumesHeap (owned.Shared x) y answer = (r : Resumed) × (x' : Heaped) × (y ≡ owned.Shared x') × Resumes r x x' × (answer ≡ resumed_code r)
 ResumesHeap x y answer = (answer ≡ code.NoHeap) × (y ≡ x)
 
--- a pause was to be made
-abbrev pub PausesHeap : Owned → Owned → Code → Type 0
-PausesHeap (owned.Shared x) y answer = (r : Paused) × (x' : Heaped) × (y ≡ owned.Shared x') × Pauses r x x' × (answer ≡ paused_code r)
-PausesHeap x y answer = (answer ≡ code.NoHeap) × (y ≡ x)
+-- a pause was to be made, and to begin a trace, or not
+abbrev pub PausesHeap : Bool → Owned → Owned → Code → Type 0
+PausesHeap begins (owned.Shared x) y answer = (r : Paused) × (x' : Heaped) × (y ≡ owned.Shared x') × Pauses begins r x x' × (answer ≡ paused_code r)
+PausesHeap begins x y answer = (answer ≡ code.NoHeap) × (y ≡ x)
 
 -- ---- counts
 

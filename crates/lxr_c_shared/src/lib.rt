@@ -9,6 +9,7 @@ mod owned;
 mod passing;
 mod settings;
 mod sharing;
+mod trimming;
 
 pub use boxing::NoBox;
 pub use crossing::holders_cross;

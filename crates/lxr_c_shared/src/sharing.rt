@@ -1,4 +1,5 @@
 //! What the calls of a program do at a heap that threads share.
+ghost use Rattle.lxr_shared_heap.specs.Heaps.{Pauses};
 ghost use Rattle.std.specs.Prelude.{◌≡◌, ◌↔◌, IfErr, IfOk};
 ghost use Rattle.lxr_graph.specs.History.{report_of};
 ghost use Rattle.lxr_c_shared.specs.Holding.{At};
@@ -130,6 +131,17 @@ fn resumed_code(resumed: Resumed) -> Code
     }
 }
 
+/// A pause, where one is wanted, which is to begin a trace or not.
+fn pause_of(heap: &mut Heap, begins: bool) -> Paused
+    ensures { Pauses begins result heap.old heap.new }
+{
+    if begins {
+        heap.pause_and_trace()
+    } else {
+        heap.pause()
+    }
+}
+
 /// The code of an answer to the wish for a pause.
 fn paused_code(paused: Paused) -> Code
     ensures { result ≡ is_paused_code paused }
@@ -194,12 +206,12 @@ impl Owned {
         }
     }
 
-    /// Makes a pause, where one is wanted.
-    fn pause(&mut self) -> Code
-        ensures { PausesHeap self.old self.new result }
+    /// Makes a pause, where one is wanted, which is to begin a trace or not.
+    fn pause(&mut self, begins: bool) -> Code
+        ensures { PausesHeap begins self.old self.new result }
     {
         match self {
-            Owned::Shared(sealed) => paused_code(sealed.heap.pause()),
+            Owned::Shared(sealed) => paused_code(pause_of(&mut sealed.heap, begins)),
             Owned::Home(_) => Code::NoHeap,
             Owned::Away(_) => Code::NoHeap,
         }
@@ -264,14 +276,15 @@ impl Holder {
         self.held.lend().resume(alloc)
     }
 
-    /// Makes a pause, where one is wanted.
-    pub fn pause(&mut self) -> Code
-        ensures { At Code.NoHeap PausesHeap self.old.held.value self.new.held.value result }
+    /// Makes a pause, where one is wanted, which is to begin a trace or not: where the heap's settings leave that free, it needn't collect, and
+    /// none runs.
+    pub fn pause(&mut self, begins: bool) -> Code
+        ensures { At Code.NoHeap (PausesHeap begins) self.old.held.value self.new.held.value result }
     {
         if !self.is_full() {
             return Code::NoHeap;
         }
-        self.held.lend().pause()
+        self.held.lend().pause(begins)
     }
 
     /// What is counted by a number.

@@ -4,5 +4,6 @@ mod DoneLemmas
 mod RegisterLemmas
 mod FieldLemmas
 mod KnownLemmas
+mod ThroughLemmas
 pub mod MakingLemmas
 pub mod NamedLemmas

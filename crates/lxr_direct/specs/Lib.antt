@@ -2,3 +2,4 @@ pub mod Operating
 pub mod Recording
 pub mod Known
 pub mod Trying
+pub mod Through

@@ -12,6 +12,7 @@ mod operating;
 mod reading;
 mod recording;
 mod registers;
+mod through;
 mod trying;
 
 pub use fields::get;
@@ -19,6 +20,7 @@ pub use known::{HeldObject, get_in, load_from, look_up, put_in, store_to, store_
 use lxr_graph::Reply;
 pub use operating::{operate, same};
 pub use reading::{Base, is_nil, name_in, object_in};
+pub use through::{try_load_through, try_store_through};
 pub use trying::{try_get, try_load, try_put, try_store};
 
 /// What has come of an operation.

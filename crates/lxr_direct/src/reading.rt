@@ -95,7 +95,7 @@ pub fn is_nil(space: &Space, thread: u8, register: u8) -> bool
 
 /// The shape of the object at a place that isn't nil.
 #[inline(always)]
-fn shape_at(space: &Space, place: Place) -> Shape
+pub fn shape_at(space: &Space, place: Place) -> Shape
     requires stands { (g : AbstractState) × (v : Option NameOf) × IsPlaceOf space.now g place v }
     requires some { place.0 ≢ 0 }
     ensures { (g : AbstractState) (v : Option NameOf) → IsPlaceOf space.now g place v → (name : NameOf) × StandsAt g place v name result }

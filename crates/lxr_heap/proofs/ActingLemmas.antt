@@ -2,6 +2,7 @@
 use Rattle.std.proofs.Common.{◌≡◌, ℕ, ◌+◌, ◌<◌, ◌≤◌, refl, sym, ap, subst, ◌∙◌, inl, inr, Bool, true, false, cond, List, [], ◌∷◌, Option, Some, None}
 use Rattle.std.specs.Prelude.{IsTrue, is_some, if◌then◌else◌, slice_set}
 use Rattle.std.specs.List.{AllByRecursion}
+use Rattle.lxr_layout.specs.declared.limits.Limits.{Limits}
 use Rattle.lxr_layout.specs.declared.Name.{Name}
 use Rattle.lxr_graph.specs.Names.{same_name}
 use Rattle.lxr_graph.proofs.NameSets.{same_itself, same_names}
@@ -68,6 +69,7 @@ replied_small x h is space o r made formed first count done finds =
       placed = λ at stands. let d = done at stands in (d.at, stands_then x h (standing x h is at stands) space o r d, λ n old kept. d.stay n old);
       stay = stay_same x.bodies.bodies;
       terms = same_terms x space x.bodies made (keeps_beside x.space space here.keeps) refl;
+      log = ap (λ (l : Limits). l.log) (keeps_beside x.space space here.keeps).limits;
     }
 
 -- what comes of an operation that finds no place
@@ -89,6 +91,7 @@ no_place_small x h is (op.New dest shape) formed full = elim x.fresh as (λ c. x
         placed = still x x h (large_op.Small (op.New dest shape)) (large_reply.Small reply.Full) (λ at stands. stands);
         stay = stay_same x.bodies.bodies;
         terms = refl;
+        log = refl;
       }
   | false ↦ λ stale. (full, stale, refl)
 ] refl
@@ -128,6 +131,7 @@ no_place_big x h is dest blocks small range none = elim x.fresh as (λ c. x.fres
         placed = still x x h (large_op.Big dest blocks) large_reply.Full (λ at stands. stands);
         stay = stay_same x.bodies.bodies;
         terms = refl;
+        log = refl;
       }
   | false ↦ λ stale. (none, stale, refl)
 ] refl
@@ -152,6 +156,7 @@ replied_big x h is space held' n dest blocks first small range run placed some n
       placed = λ at stands. let d = done at stands in (d.at, stands_then x h (standing x h is at stands) space (op.New dest handle) (reply.New n) d, λ n old kept. d.stay n old);
       stay = stay_placed x.bodies.bodies (fresh n first blocks) (subst (λ q. body_of x.bodies.bodies q ≡ None) (sym named) (next_has_none x h is));
       terms = same_terms x space (record x.bodies { bodies = with_placed x.bodies.bodies (fresh n first blocks) }) (x.made + 1) (keeps_beside x.space space here.keeps) refl;
+      log = ap (λ (l : Limits). l.log) (keeps_beside x.space space here.keeps).limits;
     })
 
 -- ---- words of bodies
@@ -191,6 +196,7 @@ replied_get x h is base i v r small e told = record {
   placed = still x (behind x x.space x.bodies x.made) h (large_op.BigGet base i) r (λ at stands. stands);
   stay = stay_same x.bodies.bodies;
   terms = refl;
+  log = refl;
 }
 
 -- a word of the body of what a register holds
@@ -210,6 +216,7 @@ replied_no_put x h is base i value v r small e told = record {
   placed = still x (behind x x.space x.bodies x.made) h (large_op.BigPut base i value) r (λ at stands. stands);
   stay = stay_same x.bodies.bodies;
   terms = refl;
+  log = refl;
 }
 
 -- a `bput` by whether the body has the word
@@ -238,6 +245,7 @@ replied_put x h is base i value n found held' small e told changed =
           placed = λ at stands. (at, stands, λ n old kept. refl);
           stay = stay_changed n (λ words. slice_set words i value) x.bodies.bodies;
           terms = refl;
+          log = refl;
         })
 
 -- ---- histories

@@ -43,7 +43,7 @@ use Rattle.lxr_large_model.specs.declared.LargeReply.{LargeReply}
 use Rattle.lxr_large_model.specs.declared.LargeReply.TheVariants as large_reply
 use Rattle.lxr_large_model.specs.Full.{AreReachable, IsFresh, LeaveNoLines, MayBeFull}
 use Rattle.lxr_large_model.specs.History.{LargeItem, Called, large_moment, large_state}
-use Rattle.lxr_large_model.specs.Pauses.{IsLegalLarge}
+use Rattle.lxr_large_model.specs.Pauses.{IsLegalLarge, most_logged}
 use Rattle.lxr_large_model.specs.State.{Large, LargeState, body_of as large_of, fresh_body, handle, with_body}
 use Rattle.lxr_large_model.specs.Step.{IsLargeOpFor, large_step, put_at, put_to, word_in as word_of}
 use Rattle.lxr_large_bodies.specs.Bodies.{Held, IsFreeRun, fresh, rank_of, with_placed, with_words, word_at}
@@ -113,7 +113,8 @@ module _ (x : Heap) (h : List LargeItem) (is : IsHeapOf x h) where
         follows = follows_then space o r formed done;
         few = subst (λ (l : Limits). length m.unreclaimed ≤ GRANULES_IN_BLOCK * l.blocks) (sym keeps.limits) is.few;
         untraced = is.untraced;
-        limits = keeps.limits ∙ is.limits ∙ ap (λ l. limits_of l.blocks l.registers) (sym keeps.limits);
+        limits = keeps.limits ∙ is.limits ∙ ap (λ (l : Limits). limits_of l.blocks l.registers l.log) (sym keeps.limits);
+        log = subst (λ (l : Limits). most_logged ≤ l.log) (sym keeps.limits) is.log;
         tally = keeps.tally ∙ is.tally ∙ ap (λ p. record no_tally { pauses = p }) (sym keeps.pauses);
         state = after.state;
         world = after.world;
@@ -155,7 +156,8 @@ module _ (x : Heap) (h : List LargeItem) (is : IsHeapOf x h) where
         follows = follows_then space (op.New dest handle) (reply.New n) (small, handle_fits) done;
         few = subst (λ (l : Limits). length m.unreclaimed ≤ GRANULES_IN_BLOCK * l.blocks) (sym keeps.limits) is.few;
         untraced = is.untraced;
-        limits = keeps.limits ∙ is.limits ∙ ap (λ l. limits_of l.blocks l.registers) (sym keeps.limits);
+        limits = keeps.limits ∙ is.limits ∙ ap (λ (l : Limits). limits_of l.blocks l.registers l.log) (sym keeps.limits);
+        log = subst (λ (l : Limits). most_logged ≤ l.log) (sym keeps.limits) is.log;
         tally = keeps.tally ∙ is.tally ∙ ap (λ p. record no_tally { pauses = p }) (sym keeps.pauses);
         state = now.state;
         world = now.world;
@@ -201,6 +203,7 @@ module _ (x : Heap) (h : List LargeItem) (is : IsHeapOf x h) where
     few = is.few;
     untraced = is.untraced;
     limits = is.limits;
+    log = is.log;
     tally = is.tally;
     state = is.state;
     world = is.world;
@@ -229,6 +232,7 @@ module _ (x : Heap) (h : List LargeItem) (is : IsHeapOf x h) where
         few = is.few;
         untraced = is.untraced;
         limits = is.limits;
+        log = is.log;
         tally = is.tally;
         state = old.state;
         world = old.world;
@@ -277,6 +281,7 @@ module _ (x : Heap) (h : List LargeItem) (is : IsHeapOf x h) where
         few = is.few;
         untraced = is.untraced;
         limits = is.limits;
+        log = is.log;
         tally = is.tally;
         state = after.state;
         world = after.world;

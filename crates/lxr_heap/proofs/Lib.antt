@@ -11,6 +11,7 @@ pub mod EarlyLemmas
 pub mod OutsLemmas
 pub mod CallLemmas
 pub mod FullLemmas
+pub mod GoneLemmas
 pub mod ActingLemmas
 pub mod PausingLemmas
 pub mod WorkingLemmas
@@ -25,3 +26,4 @@ pub mod WantingLemmas
 pub mod TryingLemmas
 pub mod AsideLemmas
 pub mod TrimmingLemmas
+mod ThroughLemmas

@@ -1,7 +1,5 @@
 -- A heap that was just opened is that of the empty history.
-use Rattle.std.proofs.Common.{◌≡◌, ℕ, ◌*◌, ◌≤◌, true, false, refl, sym, ap, subst, ◌∙◌, arith, List, [], ◌∷◌}
-use Rattle.std.specs.Prelude.{IsTrue}
-use Rattle.lxr_layout.specs.declared.Name.{Name}
+use Rattle.std.proofs.Common.{◌≡◌, ℕ, ◌*◌, ◌≤◌, true, false, refl, sym, ap, subst, ◌∙◌, arith, [], ◌∷◌}
 use Rattle.lxr_layout.specs.declared.TheConstants.{GRANULES_IN_BLOCK}
 use Rattle.lxr_layout.specs.declared.limits.Limits.{Limits}
 use Rattle.lxr_graph.specs.Listing.{NameList}
@@ -10,15 +8,17 @@ use Rattle.lxr_graph.specs.State.{world, world_name}
 use Rattle.lxr_image.specs.declared.space.Space.{Space}
 use Rattle.lxr_image.specs.Image.{IsOpeningImage, opening_at}
 use Rattle.lxr_image.specs.Opened.{IsOpened, no_tally}
-use Rattle.lxr_image.specs.Spaces.{IsSpace, tables_of}
+use Rattle.lxr_image.specs.Spaces.{IsSpace}
 use Rattle.lxr_image.specs.Tables.{Tables}
 use Rattle.lxr_model.specs.Moments.{opening_moment}
 use Rattle.lxr_model_counting.proofs.StoreLemmas.{same_shape}
 use Rattle.lxr_invariant.specs.AbstractState.{leaving, no_report}
 use Rattle.lxr_invariant.specs.Quiescent.{IsAtRest}
 use Rattle.lxr_placing.proofs.OpeningLemmas.{opened_is_quiescent}
+use Rattle.lxr_large_model.specs.Pauses.{most_logged}
 use Rattle.lxr_large_bodies.specs.Bodies.{no_bodies}
 use Rattle.lxr_heap.specs.declared.heap.Heap.{Heap}
+use Rattle.lxr_heap.specs.declared.opening.Sizes.{Sizes}
 use Rattle.lxr_heap.specs.Holding.{IsOpenedHeap, StandAt, abstract_after, limits_of}
 use Rattle.lxr_heap.proofs.CallLemmas.{stale_now}
 use Rattle.lxr_heap.proofs.EarlyLemmas.{none_are_gone, without_none}
@@ -28,8 +28,9 @@ use Rattle.lxr_heap.proofs.MomentLemmas.{at_rest}
 abbrev pub opened_with : Space → ℕ → NameList → Heap
 opened_with space bodies gone = record { space = space; bodies = no_bodies bodies; gone = gone; made = 0; made_before = 0; left = 0; fresh = false }
 
-pub opened_heap : (space : Space) (blocks bodies registers : ℕ) (gone : NameList) → gone.items ≡ [] → gone.room ≡ 2 * (GRANULES_IN_BLOCK * blocks) → 1 ≤ blocks → IsOpened space (limits_of blocks registers) → IsSpace space → IsOpeningImage space → IsOpenedHeap (opened_with space bodies gone) blocks bodies registers
-opened_heap space blocks bodies registers gone none room some opened is image = record {
+pub opened_heap : (space : Space) (sizes : Sizes) (gone : NameList) → gone.items ≡ [] → gone.room ≡ 2 * (GRANULES_IN_BLOCK * sizes.blocks) → 1 ≤ sizes.blocks → most_logged ≤ sizes.log
+    → IsOpened space (limits_of sizes.blocks sizes.registers sizes.log) → IsSpace space → IsOpeningImage space → IsOpenedHeap (opened_with space sizes.bodies gone) sizes
+opened_heap space sizes gone none room some logs opened is image = record {
   holds = record {
     legal = tt;
     at = opening_at;
@@ -39,7 +40,8 @@ opened_heap space blocks bodies registers gone none room some opened is image = 
     follows = rests.safepoint.holds.follows;
     few = let b = ap (λ (l : Limits). l.blocks) opened.limits in omega (arith, b, some);
     untraced = refl;
-    limits = opened.limits ∙ ap (λ (l : Limits). limits_of l.blocks l.registers) (sym opened.limits);
+    limits = opened.limits ∙ ap (λ (l : Limits). limits_of l.blocks l.registers l.log) (sym opened.limits);
+    log = subst (λ (l : Limits). most_logged ≤ l.log) (sym opened.limits) logs;
     tally = opened.tally ∙ ap (λ p. record no_tally { pauses = p }) (sym opened.pauses);
     state = refl;
     world = (world, refl, same_shape world);
@@ -53,15 +55,16 @@ opened_heap space blocks bodies registers gone none room some opened is image = 
     drained = λ f. absurd f;
   };
   made = refl;
-  terms = λ i. record { blocks = (opened.limits i).blocks; bodies = bodies; registers = (opened.limits i).registers };
+  terms = λ i. record { blocks = (opened.limits i).blocks; bodies = sizes.bodies; registers = (opened.limits i).registers };
+  log = ap (λ (l : Limits). l.log) opened.limits;
   untold = opened.report.told;
   none_gone = none;
 }
   where
     rests : IsAtRest space (abstract_after [] opening_at)
-    rests = at_rest space _ (opened_is_quiescent space (limits_of blocks registers) is opened image)
+    rests = at_rest space _ (opened_is_quiescent space (limits_of sizes.blocks sizes.registers sizes.log) is opened image)
 
-    stands : StandAt (opened_with space bodies gone) [] opening_at
+    stands : StandAt (opened_with space sizes.bodies gone) [] opening_at
     stands = (
       subst (λ us. IsAtRest space (record { moment = leaving (opening_moment 1) us; at = opening_at; reported = no_report })) (sym (ap (without (world_name ∷ [])) none ∙ without_none (world_name ∷ []))) rests,
       record {

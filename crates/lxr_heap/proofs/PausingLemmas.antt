@@ -1,16 +1,15 @@
 -- The heap behind a pause: no trace begins, so nothing is moved but what is promoted, and bodies stay where names do.
-use Rattle.std.proofs.Common.{◌≡◌, ◌≢◌, ℕ, ◌+◌, ◌*◌, ◌%◌, ◌^◌, ◌<◌, ◌≤◌, refl, sym, ap, subst, ◌∙◌, inl, inr, arith, Bool, true, false, cond, List, [], ◌∷◌, ◌++◌, length, Option, None}
-use Rattle.std.specs.Prelude.{◌↔◌, ◌||◌, IsTrue}
+use Rattle.std.proofs.Common.{◌≡◌, ℕ, ◌+◌, ◌*◌, ◌%◌, ◌^◌, ◌<◌, ◌≤◌, refl, sym, ap, subst, ◌∙◌, inl, inr, arith, Bool, true, false, cond, List, [], ◌∷◌, ◌++◌, length, Option, None}
+use Rattle.std.specs.Prelude.{◌↔◌, ◌&&◌, ◌||◌, IsTrue, nat_eq, not}
 use Rattle.std.proofs.lemmas.Bool.{false_from_ne_true}
-use Rattle.std.proofs.lemmas.Bool.Decides.{eqb_tells}
 use Rattle.std.proofs.lemmas.List.{length-append}
 use Rattle.lxr_layout.specs.declared.TheConstants.{GRANULES_IN_BLOCK}
 use Rattle.lxr_layout.specs.declared.limits.Limits.{Limits}
 use Rattle.lxr_layout.specs.declared.Name.{Name}
 use Rattle.lxr_graph.specs.Distinct.{IsDistinct}
-use Rattle.lxr_graph.specs.Names.{AreInOrder, has, union}
+use Rattle.lxr_graph.specs.Names.{AreInOrder, has, without}
 use Rattle.lxr_graph.specs.History.{PauseReport, report_of}
-use Rattle.lxr_graph.specs.Listing.{without_names}
+use Rattle.lxr_graph.specs.Listing.{NameList}
 use Rattle.lxr_graph.specs.declared.report.Kind.{Kind}
 use Rattle.lxr_graph.specs.declared.report.Kind.TheVariants as kind
 use Rattle.lxr_graph.proofs.NameSets.{has-union, in_order-none, in_order-union, not_both, union_cases, without_parts}
@@ -30,7 +29,7 @@ use Rattle.lxr_invariant.proofs.NameLemmas.{has_append, in_second, or_nothing}
 use Rattle.lxr_invariant.proofs.ToldLemmas.{holds_told}
 use Rattle.lxr_renew.proofs.FewLemmas.{members_few, unreclaimed_few}
 use Rattle.lxr_large_model.specs.History.{LargeItem, Paused, large_moment, large_state}
-use Rattle.lxr_large_model.specs.Pauses.{IsLargeKind, IsLegalLarge}
+use Rattle.lxr_large_model.specs.Pauses.{IsLargeKind, IsLegalLarge, most_logged}
 use Rattle.lxr_large_bodies.specs.Bodies.{left_by}
 use Rattle.lxr_one_pause.specs.declared.Ask.{Ask}
 use Rattle.lxr_one_pause.specs.declared.Ask.TheVariants as ask
@@ -76,15 +75,11 @@ pub recounted : (s after : Space) (registers : Registers) (ask : Ask) (pace : Pa
 recounted s after registers ask pace same pauses =
     subst (λ z. (g : AbstractState) → CanPause z g → (at' : Name → ℕ) × Pauses z after g at' ask pace) (ap (λ z. record s { registers = z }) same) pauses
 
--- no pace of which the number is no multiple begins a trace
-pub kind_told : (collect : Bool) (pace : Pace) (k : ℕ) (trace : Option Trace) (traced : Bool) → trace ≡ None → k % pace.trace ≢ 0 → kind_of (asked collect) pace k trace traced ≡ kind_asked collect
+-- a pace of 0 begins no trace
+pub kind_told : (collect : Bool) (pace : Pace) (k : ℕ) (trace : Option Trace) (traced : Bool) → trace ≡ None → pace.trace ≡ 0 → kind_of (asked collect) pace k trace traced ≡ kind_asked collect
 kind_told true pace k trace traced none apart = refl
 kind_told false pace k trace traced none apart =
-    ap (λ t. kind_of ask.Ordinary pace k t traced) none
-    ∙ elim (eqb_tells (k % pace.trace) 0) [
-      | inl same ↦ absurd (apart same.1)
-      | inr other ↦ ap (λ c. cond c kind.Begin kind.Plain) other.0
-    ]
+    ap (λ t. kind_of ask.Ordinary pace k t traced) none ∙ ap (λ n. cond (not (nat_eq n 0) && nat_eq (k % n) 0) kind.Begin kind.Plain) apart
 
 -- it ends none
 no_end : (collect : Bool) (k : Kind) → k ≡ kind_asked collect → IsEnd k → ⊥
@@ -109,12 +104,12 @@ fresh_behind false k is = ((λ no. let e : false ≡ true = no in absurd (cc)), 
 abbrev pub with_dead : Space → List Name → Space
 with_dead s gone = record s { report = record s.report { dead = with_gone s.report.dead gone } }
 
--- the heap behind a pause
-abbrev pub behind_pause : Heap → Space → ℕ → Bool → Heap
-behind_pause x space left collect = record x {
+-- the heap behind a pause, with a list of what is gone
+abbrev pub behind_pause : Heap → Space → ℕ → Bool → NameList → Heap
+behind_pause x space left collect none = record x {
   space = space;
   bodies = record x.bodies { bodies = left_by (report_of space.report) x.bodies.bodies };
-  gone = without_names x.gone;
+  gone = none;
   made_before = x.made;
   left = left;
   fresh = collect;
@@ -125,7 +120,7 @@ abbrev pub PausesAnywhere : Heap → List LargeItem → Space → Ask → Pace �
 PausesAnywhere x h space ask pace = (at : Name → ℕ) → StandAt x h at → (at' : Name → ℕ) × Pauses x.space space (abstract_of x h at) at' ask pace
 
 -- A pause was made where some of the dead were gone, and they are reported with the others.
-module _ (x : Heap) (h : List LargeItem) (is : IsHeapOf x h) (space : Space) (collect : Bool) (pace : Pace) (apart : (x.space.pauses + 1) % pace.trace ≢ 0) (at' : Name → ℕ)
+module _ (x : Heap) (h : List LargeItem) (is : IsHeapOf x h) (space : Space) (collect : Bool) (pace : Pace) (apart : pace.trace ≡ 0) (at' : Name → ℕ)
     (p : Pauses x.space space (abstract_of x h is.at) at' (asked collect) pace) where
   abbrev m : Moment
   m = large_moment h
@@ -163,9 +158,7 @@ module _ (x : Heap) (h : List LargeItem) (is : IsHeapOf x h) (space : Space) (co
 
   -- the kind of the pause is the one that was asked for
   kind_was : space.report.kind ≡ kind_asked collect
-  kind_was =
-      let number : x.space.pauses + 1 ≡ m.number + 1 = ap (λ k. k + 1) is.stands.0.safepoint.numbers.pauses in
-      p.kind.kind ∙ kind_told collect pace (m.number + 1) m.trace p.kind.traced is.untraced (subst (λ k. k % pace.trace ≢ 0) number apart)
+  kind_was = p.kind.kind ∙ kind_told collect pace (m.number + 1) m.trace p.kind.traced is.untraced apart
 
   untraced_then : (after_pause m r).trace ≡ None
   untraced_then = no_trace collect m r is.untraced kind_was
@@ -242,9 +235,10 @@ module _ (x : Heap) (h : List LargeItem) (is : IsHeapOf x h) (space : Space) (co
   none_out : (line : ℕ) → IsTrue ((tables_of told).outs line) → ⊥
   none_out line out = let copy = (p.outs line).0 out in absurd (let no : false ≡ true = subst (λ ns. IsTrue (has ns copy.name)) none_moved copy.promoted_is in cc)
 
-  pub stands_then : (left : ℕ) → StandAt (behind_pause x told left collect) (Paused r ∷ h) at'
-  stands_then left = (
-    subst (λ us. IsAtRest told (record { moment = leaving (after_pause m r) us; at = at'; reported = r })) (sym (without_none (after_pause m r).unreclaimed)) rests_then,
+  pub stands_then : (left : ℕ) (none : NameList) → none.items ≡ [] → StandAt (behind_pause x told left collect none) (Paused r ∷ h) at'
+  stands_then left none empty = (
+    subst (λ us. IsAtRest told (record { moment = leaving (after_pause m r) us; at = at'; reported = r }))
+        (sym (ap (without (after_pause m r).unreclaimed) empty ∙ without_none (after_pause m r).unreclaimed)) rests_then,
     record { taken = λ line out. absurd (none_out line out); outside = λ line out. absurd (none_out line out) },
   )
 
@@ -254,21 +248,27 @@ module _ (x : Heap) (h : List LargeItem) (is : IsHeapOf x h) (space : Space) (co
 
   -- ---- the heap
 
-  pub paused_heap : (left : ℕ) → left + (length r.dead + length r.swept) ≡ x.left + length r.promoted → IsHeapOf (behind_pause x told left collect) (Paused r ∷ h)
-  paused_heap left left_is =
+  -- the list of what is gone has the room that the dead of the report have
+  pub rooms : x.gone.room ≡ space.report.dead.room
+  rooms = is.room ∙ is.stands.0.safepoint.holds.room.report.dead ∙ sym (p.between.safepoint.holds.room.report.dead ∙ ap (λ (l : Limits). 2 * (GRANULES_IN_BLOCK * l.blocks)) keeps)
+
+  pub paused_heap : (left : ℕ) (none : NameList) → none.items ≡ [] → none.room ≡ x.gone.room → left + (length r.dead + length r.swept) ≡ x.left + length r.promoted
+      → IsHeapOf (behind_pause x told left collect none) (Paused r ∷ h)
+  paused_heap left none empty same left_is =
       let counted : space.pauses ≡ x.space.pauses + 1 = ap (λ (s : Space). s.pauses) p.space in
       let tally = p.tally ∙ (λ i. record (is.tally i) { pauses = (is.tally i).pauses + 1; moved = (is.tally i).moved + length (none_moved i); kept = (is.tally i).kept + length (none_kept i) }) in
-      let terms : terms_of (behind_pause x told left collect) ≡ terms_of x = λ i. record { blocks = (keeps i).blocks; bodies = x.bodies.blocks; registers = (keeps i).registers } in
+      let terms : terms_of (behind_pause x told left collect none) ≡ terms_of x = λ i. record { blocks = (keeps i).blocks; bodies = x.bodies.blocks; registers = (keeps i).registers } in
       record {
         legal = subst (λ t. IsLegalLarge t (Paused r ∷ h)) (sym terms) (is.legal, record { kind = large_kind collect r.kind kind_was; reports = reports });
         at = at';
-        stands = stands_then left;
-        gone = none_are_gone (after_pause m r) [] refl;
-        room = is.room ∙ is.stands.0.safepoint.holds.room.report.dead ∙ sym (p.between.safepoint.holds.room.report.dead ∙ ap (λ (l : Limits). 2 * (GRANULES_IN_BLOCK * l.blocks)) keeps);
+        stands = stands_then left none empty;
+        gone = none_are_gone (after_pause m r) none.items empty;
+        room = same ∙ rooms;
         follows = follows_then;
         few = unreclaimed_few told (after_pause m r) at' rests_then.safepoint.holds;
         untraced = untraced_then;
-        limits = keeps ∙ is.limits ∙ ap (λ l. limits_of l.blocks l.registers) (sym keeps);
+        limits = keeps ∙ is.limits ∙ ap (λ (l : Limits). limits_of l.blocks l.registers l.log) (sym keeps);
+        log = subst (λ (l : Limits). most_logged ≤ l.log) (sym keeps) is.log;
         tally = tally ∙ ap (λ k. record no_tally { pauses = k }) (sym counted);
         state = is.state;
         world = is.world;
@@ -282,22 +282,23 @@ module _ (x : Heap) (h : List LargeItem) (is : IsHeapOf x h) (space : Space) (co
         drained = λ f. subst (λ k. IsDrained space (is_draining k)) f p.drained;
       }
 
-pub pauses_heap : (x : Heap) (h : List LargeItem) (is : IsHeapOf x h) (space : Space) (left : ℕ) (collect : Bool) (pace : Pace) → (x.space.pauses + 1) % pace.trace ≢ 0
+pub pauses_heap : (x : Heap) (h : List LargeItem) (is : IsHeapOf x h) (space : Space) (left : ℕ) (collect : Bool) (pace : Pace) (none : NameList) → none.items ≡ [] → none.room ≡ x.gone.room → pace.trace ≡ 0
     → PausesAnywhere x h space (asked collect) pace
     → left + (length (with_dead space x.gone.items).report.dead.items + length space.report.swept.items) ≡ x.left + length space.report.promoted.items
-    → PausesHeap x (behind_pause x (with_dead space x.gone.items) left collect) h collect
-pauses_heap x h is space left collect pace apart pauses left_is =
+    → PausesHeap x (behind_pause x (with_dead space x.gone.items) left collect none) h collect
+pauses_heap x h is space left collect pace none empty same apart pauses left_is =
     let (at', p) = pauses is.at is.stands in
     let keeps : space.limits ≡ x.space.limits = ap (λ (s : Space). s.limits) p.space in
     record {
       kind = kind_was x h is space collect pace apart at' p;
-      holds = paused_heap x h is space collect pace apart at' p left left_is;
+      holds = paused_heap x h is space collect pace apart at' p left none empty same left_is;
       made = refl;
-      gone = refl;
+      gone = empty;
       placed = λ at stands.
           let (to, q) = pauses at stands in
           let here = standing x h is at stands in
-          (to, stands_then x h here space collect pace apart to q left, λ n old kept. unmoved x h here space collect pace apart to q n old);
+          (to, stands_then x h here space collect pace apart to q left none empty, λ n old kept. unmoved x h here space collect pace apart to q n old);
       stay = stay_left (report_of (with_dead space x.gone.items).report) x.bodies.blocks x.bodies.bodies is.apart;
       terms = λ i. record { blocks = (keeps i).blocks; bodies = x.bodies.blocks; registers = (keeps i).registers };
+      log = ap (λ (l : Limits). l.log) keeps;
     }

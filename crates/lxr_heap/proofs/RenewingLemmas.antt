@@ -22,7 +22,7 @@ use Rattle.lxr_invariant.specs.Quiescent.{IsAtRest}
 use Rattle.lxr_full.specs.Room.{HasWorld}
 use Rattle.lxr_large_model.specs.Full.{IsFresh}
 use Rattle.lxr_large_model.specs.History.{LargeItem, Renewed, large_moment, large_state}
-use Rattle.lxr_large_model.specs.Pauses.{IsLegalLarge}
+use Rattle.lxr_large_model.specs.Pauses.{IsLegalLarge, most_logged}
 use Rattle.lxr_graph.specs.Renewing.{renewed_graph, renewed_held, renewed_name, renewed_object, renewed_state}
 use Rattle.lxr_model.specs.Moments.{renewed_moment}
 use Rattle.lxr_large_model.specs.Renewing.{AreCounted, counted_name, renewed_body}
@@ -302,6 +302,7 @@ module _ (x y : Heap) (h : List LargeItem) (fresh : IsTrue x.fresh) (tells : Tel
       placed = λ at stands. let rests = rests_at at (stand_told at stands) in let s = renews at rests in (s.at, stand_renewed at rests, s.stay);
       bodies = ap (λ (z : Heap). record z.bodies { bodies = map (renamed ns) z.bodies.bodies }) tells.heap;
       terms = terms ∙ ap terms_of tells.heap;
+      log = ap (λ (l : Limits). l.log) keeps ∙ ap (λ (z : Heap). z.space.limits.log) tells.heap;
       told = ap (λ (s : Space). map counted_name s.report.told.items) r.space ∙ tells.names ∙ all_left ∙ names;
       counts = ap (λ (s : Space). s.report.told.items) r.space ∙ tells.counts f;
       holds = record {
@@ -313,7 +314,8 @@ module _ (x y : Heap) (h : List LargeItem) (fresh : IsTrue x.fresh) (tells : Tel
         follows = rests.safepoint.holds.follows;
         few = (let long = length-map m.unreclaimed (renewed_name ns) in let most = is.few in let blocks = ap (λ (l : Limits). l.blocks) keeps in omega (arith, long, most, blocks));
         untraced = refl;
-        limits = keeps ∙ is.limits ∙ ap (λ (l : Limits). limits_of l.blocks l.registers) (sym keeps);
+        limits = keeps ∙ is.limits ∙ ap (λ (l : Limits). limits_of l.blocks l.registers l.log) (sym keeps);
+        log = subst (λ (l : Limits). most_logged ≤ l.log) (sym keeps) is.log;
         tally = ap (λ (s : Space). s.tally) r.space ∙ ap (λ k. record no_tally { pauses = k }) (sym no_pauses);
         state = ap (renewed_state 1 ns) is.state;
         world = world;

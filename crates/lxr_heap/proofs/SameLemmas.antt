@@ -61,6 +61,7 @@ retold_heap x h is by k leads legal =
       few = subst (λ (m : Moment). length m.unreclaimed ≤ GRANULES_IN_BLOCK * x.space.limits.blocks) leads.moment is.few;
       untraced = ap (λ (m : Moment). m.trace) (sym leads.moment) ∙ is.untraced;
       limits = is.limits;
+      log = is.log;
       tally = is.tally;
       state = now.state;
       world = now.world;

@@ -30,6 +30,7 @@ other_words x words h is stands waiting = record {
   few = is.few;
   untraced = is.untraced;
   limits = is.limits;
+  log = is.log;
   tally = is.tally;
   state = is.state;
   world = is.world;

@@ -1,5 +1,5 @@
 -- Behind a pause that an operation wanted it wants none: a fresh pause stands before it, and the log is empty.
-use Rattle.std.proofs.Common.{◌≡◌, ◌*◌, ap, refl, arith, Bool, true, false, List, [], ◌∷◌, length}
+use Rattle.std.proofs.Common.{◌≡◌, ◌*◌, ◌≤◌, ◌∙◌, ap, refl, arith, Bool, true, false, List, [], ◌∷◌, length}
 use Rattle.lxr_layout.specs.declared.limits.Limits.{Limits}
 use Rattle.lxr_graph.specs.declared.Op.TheVariants as op
 use Rattle.lxr_graph.specs.History.{report_of}
@@ -15,9 +15,12 @@ use Rattle.lxr_heap.specs.Pausing.{PausesHeap}
 
 -- ---- the log
 
--- the log has room for 1,024 entries
-pub log_room : (x : Heap) (h : List LargeItem) → IsHeapOf x h → x.space.limits.threads * x.space.limits.log ≡ 1024
-log_room x h is = ap (λ (l : Limits). l.threads * l.log) is.limits
+-- it has as many entries as the limits say, which are some
+pub log_room : (x : Heap) (h : List LargeItem) → IsHeapOf x h → (x.space.limits.threads * x.space.limits.log ≡ x.space.limits.log) × (1 ≤ x.space.limits.log)
+log_room x h is = (one, let some = is.log in omega (arith, some))
+  where
+    one : x.space.limits.threads * x.space.limits.log ≡ x.space.limits.log
+    one = let single = ap (λ (l : Limits). l.threads) is.limits in ap (λ k. k * x.space.limits.log) single ∙ (let sum : 1 * x.space.limits.log ≡ x.space.limits.log = omega arith in sum)
 
 pub logged_are : (x : Heap) (h : List LargeItem) → (is : IsHeapOf x h) → length (large_moment h).written ≡ length x.space.logged.items
 logged_are x h is = log_is_written x.space (abstract_of x h is.at) is.stands.0.safepoint
@@ -27,10 +30,10 @@ logged_are x h is = log_is_written x.space (abstract_of x h is.at) is.stands.0.s
 no_log : (x : Heap) (h : List LargeItem) → IsHeapOf x h → (large_moment h).written ≡ [] → (o : LargeOp) → FindsNoLog x (large_moment h) o → ⊥
 no_log x h is none (large_op.Small (op.Store base i source)) log =
     let full = log.1 in
-    let room = log_room x h is in
+    let (all, some) = log_room x h is in
     let same = logged_are x h is in
     let zero = ap length none in
-    absurd (omega (arith, full, room, same, zero))
+    absurd (omega (arith, full, all, some, same, zero))
 no_log x h is none o log = absurd log
 
 -- what finds no room in the log makes nothing

@@ -1,9 +1,8 @@
 -- The heap once some of the decrements are done before the pause: names that die by it join those that are gone, and blocks get the states of
 -- their lines.
-use Rattle.std.proofs.Common.{◌≡◌, ◌≢◌, ℕ, ◌+◌, ◌*◌, ◌/◌, ◌<◌, ◌≤◌, refl, sym, ap, subst, ◌∙◌, inl, inr, arith, Bool, true, false, List, [], ◌∷◌, ◌++◌, length}
-use Rattle.std.specs.Prelude.{◌&&◌, None, IsTrue, not}
+use Rattle.std.proofs.Common.{◌≡◌, ℕ, ◌+◌, ◌*◌, ◌/◌, ◌<◌, ◌≤◌, refl, sym, ap, subst, ◌∙◌, inl, inr, arith, Bool, false, List, [], ◌++◌, length}
+use Rattle.std.specs.Prelude.{◌&&◌, IsTrue, not}
 use Rattle.std.proofs.lemmas.Bool.{false_from_ne_true}
-use Rattle.std.proofs.lemmas.List.{length-append}
 use Rattle.lxr_layout.specs.declared.Name.{Name}
 use Rattle.lxr_layout.specs.declared.limits.Limits.{Limits}
 use Rattle.lxr_layout.specs.declared.TheConstants.{DECREMENT_COUNT, GRANULES_IN_BLOCK, GRANULES_IN_LINE, LINES_IN_BLOCK}
@@ -17,7 +16,7 @@ use Rattle.lxr_image.specs.declared.space.Space.{Space}
 use Rattle.lxr_image.specs.Image.{IsImage}
 use Rattle.lxr_image.specs.Opened.{HasReportRoom}
 use Rattle.lxr_image.specs.Settled.{AreCounted}
-use Rattle.lxr_image.specs.Spaces.{IsSpace, Turns, tables_of}
+use Rattle.lxr_image.specs.Spaces.{Turns, tables_of}
 use Rattle.lxr_image.specs.Tables.{Tables}
 use Rattle.lxr_blocks.specs.declared.states.BlockState.TheVariants.{Chosen}
 use Rattle.lxr_blocks.specs.Lines.{are_zero, is_free}
@@ -27,8 +26,8 @@ use Rattle.lxr_model.specs.Dead.{Dead}
 use Rattle.lxr_model.specs.Moments.{Moment}
 use Rattle.lxr_model.proofs.ReachableLemmas.{dead_parts}
 use Rattle.lxr_model_counting.specs.Following.{FollowsPause}
-use Rattle.lxr_invariant.specs.AbstractState.{AbstractState, leaving, members}
-use Rattle.lxr_invariant.specs.Counting.{HasCounts, HasDecrements, IsUndecremented, count_at, passing}
+use Rattle.lxr_invariant.specs.AbstractState.{leaving, members}
+use Rattle.lxr_invariant.specs.Counting.{HasCounts, HasDecrements, IsUndecremented, count_at}
 use Rattle.lxr_invariant.specs.Keeping.{KeepsListsAndCounters}
 use Rattle.lxr_invariant.specs.Lines.{AvoidChosen, FreeAreUnused, HasBlocks, HasMarks, HasStates, KeepLines, LinesAreOut, OutsAreTaken}
 use Rattle.lxr_invariant.specs.Quiescent.{HoldsMoment, IsAtRest}
@@ -36,12 +35,12 @@ use Rattle.lxr_invariant.specs.Standing.{HasBits}
 use Rattle.lxr_invariant.specs.Tracing.{IsTracedBy}
 use Rattle.lxr_invariant.proofs.EntryLemmas.{passing_few}
 use Rattle.lxr_invariant.proofs.FrameLemmas.{bits_still, counts_still, decrements_still, image_still, marks_still, undecremented_still}
-use Rattle.lxr_invariant.proofs.NameLemmas.{has_append, in_either, in_first, in_second}
+use Rattle.lxr_invariant.proofs.NameLemmas.{has_append, in_either, in_second}
 use Rattle.lxr_invariant.proofs.ToldLemmas.{holds_told}
 use Rattle.lxr_invariant.proofs.UnusedLemmas.{free_are_free, unused_by_lines}
 use Rattle.lxr_pause_decrements.specs.declared.slices.Slice.{Slice}
 use Rattle.lxr_pause_decrements.specs.declared.slices.Slice.TheVariants.{Done, Spent, Held}
-use Rattle.lxr_pause_decrements.specs.Slices.{CanFinishSome, Ends, FinishesSome, LowersSome, references_held}
+use Rattle.lxr_pause_decrements.specs.Slices.{CanFinishSome, Ends, FinishesSome, references_held}
 use Rattle.lxr_one_pause.specs.Settling.{survived}
 use Rattle.lxr_one_pause.proofs.DistinctnessLemmas.{distinct_append}
 use Rattle.lxr_one_pause.proofs.FrameLemmas.{AgreesApartFromBlocks, rest_reworded}
@@ -350,6 +349,7 @@ module _ (x : Heap) (h : List LargeItem) (is : IsHeapOf x h) where
           few = is.few;
           untraced = is.untraced;
           limits = is.limits;
+          log = is.log;
           tally = is.tally;
           state = is.state;
           world = is.world;

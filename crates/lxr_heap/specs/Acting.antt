@@ -60,8 +60,8 @@ made_by made _ = made
 
 -- It was done: the heap is that of the history with this call, which is legal, so the reply is that of a step of the model and the state is the
 -- one after it; or, exactly where no place is found right behind a pause that collected, it was refused as `full`, and nothing has changed. One
--- object more was made where the reply tells of one, no object and no body has moved, nothing more is gone, and the last pause's report stays,
--- with what was told in it.
+-- object more was made where the reply tells of one, no object and no body has moved, nothing more is gone, the last pause's report stays, with
+-- what was told in it, and the log has as many entries as before.
 pub record IsReplied (before after : Heap) (h : List LargeItem) (o : LargeOp) (r : LargeReply) : Type 0 where
   pub holds : IsHeapOf after (Called o r ∷ h)
   pub refused : IsRefusal o r ↔ FindsNoPlace before o
@@ -73,6 +73,7 @@ pub record IsReplied (before after : Heap) (h : List LargeItem) (o : LargeOp) (r
   pub placed : StayInPlace before after h (Called o r ∷ h) (members (survived (large_moment h) before.gone.items))
   pub stay : StayInBlocks before.bodies.bodies after.bodies.bodies
   pub terms : terms_of after ≡ terms_of before
+  pub log : after.space.limits.log ≡ before.space.limits.log
 
 -- What has come of an operation: it was replied to; or it finds no place and no fresh pause stands before it; or it has to record what it
 -- overwrites and the log is full. After the last two nothing has changed.

@@ -3,14 +3,13 @@ use Rattle.std.specs.Prelude.{◌≡◌, ℕ, ◌+◌, ◌*◌, ◌≤◌, ◌�
 use Rattle.std.specs.List.{AllByRecursion}
 use Rattle.lxr_layout.specs.declared.limits.Limits.{Limits}
 use Rattle.lxr_layout.specs.declared.Name.{Name}
-use Rattle.lxr_layout.specs.declared.TheConstants.{DECREMENT_COUNT, GRANULES_IN_BLOCK, WORDS_IN_BLOCK}
+use Rattle.lxr_layout.specs.declared.TheConstants.{DECREMENT_COUNT, GRANULES_IN_BLOCK, LEAST_REGISTERS, MOST_BLOCKS, REGISTERS, WORDS_IN_BLOCK}
 use Rattle.lxr_graph.specs.declared.Reply.{Reply}
 use Rattle.lxr_graph.specs.declared.Reply.TheVariants as reply
 use Rattle.lxr_graph.specs.Distinct.{IsDistinct}
 use Rattle.lxr_graph.specs.Names.{has, same_name}
 use Rattle.lxr_graph.specs.History.{PauseReport}
 use Rattle.lxr_graph.specs.State.{next_name}
-use Rattle.lxr_image.specs.declared.space.Space.{Space}
 use Rattle.lxr_image.specs.Opened.{no_tally}
 use Rattle.lxr_image.specs.Spaces.{tables_of}
 use Rattle.lxr_model.specs.Dead.{Dead}
@@ -24,16 +23,24 @@ use Rattle.lxr_full.specs.Room.{HasWorld}
 use Rattle.lxr_one_pause.specs.Settling.{survived}
 use Rattle.lxr_large_model.specs.Full.{IsFresh, LargeTerms}
 use Rattle.lxr_large_model.specs.History.{LargeItem, Called, Paused, Renewed, large_moment, large_state}
-use Rattle.lxr_large_model.specs.Pauses.{IsLegalLarge}
+use Rattle.lxr_large_model.specs.Pauses.{IsLegalLarge, most_logged}
 use Rattle.lxr_large_model.specs.State.{Large}
 use Rattle.lxr_large_bodies.specs.Bodies.{Body, body_of}
 use Rattle.lxr_large_bodies.specs.Kept.{HoldsBodies}
 use Rattle.lxr_heap.specs.declared.heap.Heap.{Heap}
+use Rattle.lxr_heap.specs.declared.opening.Sizes.{Sizes}
 
--- the limits of the space: one thread, which may name so many registers, and whose log has 1,024 entries; no trace runs beside it, so nothing is
+-- the limits of the space: one thread, which may name so many registers, and whose log has so many entries; no trace runs beside it, so nothing is
 -- remembered for one
-abbrev pub limits_of : ℕ → ℕ → Limits
-limits_of blocks registers = record { blocks = blocks; threads = 1; log = 1024; remember = 1; registers = registers; evacuate = 0 }
+abbrev pub limits_of : ℕ → ℕ → ℕ → Limits
+limits_of blocks registers log = record { blocks = blocks; threads = 1; log = log; remember = 1; registers = registers; evacuate = 0 }
+
+-- what a heap may be opened with: 1 to 65,536 blocks of either kind, 16 to 256 registers, and a log of 1,024 to 65,536 entries
+pub record AreSizes (sizes : Sizes) : Type 0 where
+  pub blocks : (1 ≤ sizes.blocks) × (sizes.blocks ≤ MOST_BLOCKS)
+  pub bodies : (1 ≤ sizes.bodies) × (sizes.bodies ≤ MOST_BLOCKS)
+  pub registers : (LEAST_REGISTERS ≤ sizes.registers) × (sizes.registers ≤ REGISTERS)
+  pub log : (most_logged ≤ sizes.log) × (sizes.log ≤ 65536)
 
 -- the blocks of the heap, those for bodies, and how many registers its thread may name
 abbrev pub terms_of : Heap → LargeTerms
@@ -115,7 +122,8 @@ pub record AreGone (m : Moment) (gone : List Name) : Type 0 where
 
 -- A heap is that of a history: its objects stand at places, so its space is at rest for the moment that the history leads to, but that some of
 -- the dead are gone already, and no trace runs; its bodies are those of the large names that are kept, gone or not; it knows how many names were
--- made and how many objects there are, and whether a pause is fresh, where no decrement waits; and the history is legal, so each reply was that
+-- made and how many objects there are, and whether a pause is fresh, where no decrement waits; its log has room for more than any one object has
+-- references; and the history is legal, so each reply was that
 -- of a step, or `full` where it may be, and each report that of its pause. What is gone has the room that the dead of a report have.
 pub record IsHeapOf (x : Heap) (h : List LargeItem) : Type 0 where
   pub legal : IsLegalLarge (terms_of x) h
@@ -126,7 +134,8 @@ pub record IsHeapOf (x : Heap) (h : List LargeItem) : Type 0 where
   pub follows : FollowsPause (large_moment h)
   pub few : length (large_moment h).unreclaimed ≤ GRANULES_IN_BLOCK * x.space.limits.blocks
   pub untraced : (large_moment h).trace ≡ None
-  pub limits : x.space.limits ≡ limits_of x.space.limits.blocks x.space.limits.registers
+  pub limits : x.space.limits ≡ limits_of x.space.limits.blocks x.space.limits.registers x.space.limits.log
+  pub log : most_logged ≤ x.space.limits.log
   pub tally : x.space.tally ≡ record no_tally { pauses = x.space.pauses }
   pub state : (large_moment h).state ≡ (large_state h).small
   pub world : HasWorld (large_state h).small.graph
@@ -139,11 +148,11 @@ pub record IsHeapOf (x : Heap) (h : List LargeItem) : Type 0 where
   pub collected : IsFresh h → IsCollected (large_moment h)
   pub drained : IsFresh h → (tables_of x.space).cursors DECREMENT_COUNT ≡ 0
 
--- a heap without a history yet: one of these blocks, and of these for bodies, whose thread may name so many registers; nothing is told of
--- counts, and nothing is gone
-pub record IsOpenedHeap (x : Heap) (blocks bodies registers : ℕ) : Type 0 where
+-- a heap without a history yet, of these sizes; nothing is told of counts, and nothing is gone
+pub record IsOpenedHeap (x : Heap) (sizes : Sizes) : Type 0 where
   pub holds : IsHeapOf x []
   pub made : x.made ≡ 0
-  pub terms : terms_of x ≡ record { blocks = blocks; bodies = bodies; registers = registers }
+  pub terms : terms_of x ≡ record { blocks = sizes.blocks; bodies = sizes.bodies; registers = sizes.registers }
+  pub log : x.space.limits.log ≡ sizes.log
   pub untold : x.space.report.told.items ≡ []
   pub none_gone : x.gone.items ≡ []

@@ -9,3 +9,4 @@ pub mod Renewing
 pub mod Known
 pub mod Trying
 pub mod Trimming
+pub mod Through

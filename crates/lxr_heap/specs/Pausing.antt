@@ -20,7 +20,7 @@ with_gone dead gone = in_order (with_names dead gone)
 -- A pause was made: it is of the kind that was asked for, and the heap is that of the history with it, which is legal, so its report is that of
 -- the moment, also of what was gone before it, and exactly the bodies of what is left are held, each in the blocks that it had. What was
 -- unreclaimed at the pause before and still is stands where it stood: no trace chose blocks, so none is evacuated, and what was made since is all
--- that a pause moves. Nothing is gone after it.
+-- that a pause moves. Nothing is gone after it, and the log has as many entries as before.
 pub record PausesHeap (before after : Heap) (h : List LargeItem) (collect : Bool) : Type 0 where
   pub kind : after.space.report.kind ≡ kind_asked collect
   pub holds : IsHeapOf after (Paused (report_of after.space.report) ∷ h)
@@ -29,3 +29,4 @@ pub record PausesHeap (before after : Heap) (h : List LargeItem) (collect : Bool
   pub placed : StayInPlace before after h (Paused (report_of after.space.report) ∷ h) (large_moment h).unreclaimed
   pub stay : StayInBlocks before.bodies.bodies after.bodies.bodies
   pub terms : terms_of after ≡ terms_of before
+  pub log : after.space.limits.log ≡ before.space.limits.log

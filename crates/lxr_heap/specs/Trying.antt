@@ -14,14 +14,15 @@ use Rattle.lxr_heap.specs.declared.heap.Heap.{Heap}
 use Rattle.lxr_heap.specs.Acting.{IsReplied}
 use Rattle.lxr_heap.specs.Holding.{IsHeapOf}
 
--- a reply that a field was loaded, written or stored to
+-- a reply that a field was loaded, written or stored to, or that a register became nil
 abbrev pub IsDoing : Reply → Type 0
 IsDoing (reply.Loaded held) = ⊤
 IsDoing reply.Put = ⊤
 IsDoing reply.Stored = ⊤
+IsDoing reply.Cleared = ⊤
 IsDoing r = ⊥
 
--- an operation on a field was done, with one reply whatever history the heap is of
+-- an operation on a field or a register was done, with one reply whatever history the heap is of
 abbrev pub Does : Heap → Heap → Op → Type 0
 Does before after o = (r : Reply) × IsDoing r × ((h : List LargeItem) → IsHeapOf before h → IsReplied before after h (large_op.Small o) (large_reply.Small r))
 

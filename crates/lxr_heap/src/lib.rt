@@ -15,12 +15,13 @@ mod opening;
 mod pausing;
 mod renewing;
 mod telling;
+mod through;
 mod trimming;
 mod trying;
 mod working;
 
-ghost use Rattle.std.specs.Prelude.{◌≡◌, ◌↔◌, ◌+◌, ◌-◌, ◌^◌, ◌<◌, ◌≤◌, IfOk, IsTrue, List, [], None, length, unwrap_or};
-ghost use Rattle.lxr_layout.specs.declared.TheConstants.{DECREMENT_COUNT, LEAST_REGISTERS, MOST_BLOCKS, REGISTERS};
+ghost use Rattle.std.specs.Prelude.{◌≡◌, ◌↔◌, ◌+◌, ◌-◌, ◌^◌, ◌<◌, IfOk, IsTrue, List, [], None, length, unwrap_or};
+ghost use Rattle.lxr_layout.specs.declared.TheConstants.{DECREMENT_COUNT};
 ghost use Rattle.lxr_graph.specs.State.{register_at};
 ghost use Rattle.lxr_image.specs.Spaces.{tables_of};
 ghost use Rattle.lxr_blocks.specs.Listing.{listed_frees};
@@ -30,7 +31,7 @@ ghost use Rattle.lxr_large_model.specs.Step.{IsLargeReply};
 ghost use Rattle.lxr_large_bodies.specs.Bodies.{blocks_held};
 ghost use Rattle.lxr_heap.specs.Acting.{Acts, MayBeCalled};
 ghost use Rattle.lxr_heap.specs.Bulk.{WritesWords, base_held, bulk_reply, words_held};
-ghost use Rattle.lxr_heap.specs.Holding.{IsHeapOf, IsOpenedHeap};
+ghost use Rattle.lxr_heap.specs.Holding.{AreSizes, IsHeapOf, IsOpenedHeap};
 ghost use Rattle.lxr_heap.specs.Looking.{IsLook, shape_held};
 ghost use Rattle.lxr_heap.specs.Pausing.{PausesHeap};
 ghost use Rattle.lxr_heap.specs.Renewing.{RenewsHeap};
@@ -45,6 +46,7 @@ use lxr_large_bodies::Bodies;
 use lxr_large_model::{Acted, LargeOp, LargeReply};
 use lxr_layout::Shape;
 pub use lxr_pause_decrements::Slice;
+pub use opening::Sizes;
 use std::alloc::{AllocError, Global};
 use std::marker::Model;
 
@@ -71,26 +73,19 @@ impl Model for LargeHeap {
 }
 
 impl LargeHeap {
-    /// A heap of so many blocks, and so many for bodies, 1 to 65,536 each, whose operations name the first 16 to 256 registers: it has
-    /// the world alone, which r0 holds. All its memory is reserved here, and written as it is used, but for a word of each block.
-    pub fn open(
-        alloc: Global,
-        blocks: u32,
-        bodies: u32,
-        registers: u16,
-    ) -> Result<LargeHeap, AllocError>
-        requires blocks { (1 ≤ blocks) × (blocks ≤ MOST_BLOCKS) }
-        requires bodies { (1 ≤ bodies) × (bodies ≤ MOST_BLOCKS) }
-        requires registers { (LEAST_REGISTERS ≤ registers) × (registers ≤ REGISTERS) }
-        ensures { IfOk result (λ heap. IsOpenedHeap heap blocks bodies registers) }
+    /// A heap of these sizes: it has the world alone, which r0 holds. All its memory is reserved here, and written as it is used, but for a
+    /// word of each block.
+    pub fn open(alloc: Global, sizes: Sizes) -> Result<LargeHeap, AllocError>
+        requires { AreSizes sizes }
+        ensures { IfOk result (λ heap. IsOpenedHeap heap sizes) }
     {
-        let heap = opening::open(alloc, blocks, bodies, registers)?;
+        let heap = opening::open(alloc, sizes)?;
         Ok(LargeHeap { heap })
     }
 
     /// Does one operation of the thread. `Replied` has its reply: that of a step, or that the heap is full, exactly where it finds no place
     /// right behind a pause that collected, or such refusals alone. `Room` comes exactly where it finds no place and no such pause stands
-    /// before it, and `Log` exactly where a store has to record what it overwrites and the log has 1,024 entries; then nothing has changed,
+    /// before it, and `Log` exactly where a store has to record what it overwrites and the log is full; then nothing has changed,
     /// and the operation may be done again behind a pause: one that collects for `Room`, any for `Log`.
     #[inline(always)]
     pub fn act(&mut self, op: LargeOp) -> Acted

@@ -1,7 +1,6 @@
 //! One pause of a heap.
-ghost use Rattle.std.specs.Prelude.{◌≡◌, ◌≢◌, ◌+◌, ◌^◌, ◌%◌, ◌<◌, ◌≤◌, List, [], ◌++◌, if◌then◌else◌, length};
+ghost use Rattle.std.specs.Prelude.{◌≡◌, ◌+◌, ◌^◌, ◌<◌, ◌≤◌, ◌⊎◌, List, [], ◌++◌, if◌then◌else◌, length};
 ghost use Rattle.lxr_graph.specs.Distinct.{IsDistinct};
-ghost use Rattle.lxr_graph.specs.Listing.{without_names};
 ghost use Rattle.lxr_large_model.specs.History.{LargeItem};
 ghost use Rattle.lxr_one_pause.specs.declared.Ask.TheVariants as ask;
 ghost use Rattle.lxr_one_pause.specs.Deciding.{IsPace};
@@ -11,24 +10,16 @@ ghost use Rattle.lxr_heap.specs.Pausing.{PausesHeap, with_gone};
 use crate::heap::Heap;
 use lxr_graph::{Names, Report};
 use lxr_one_pause::{Ask, Pace, one_pause};
+use std::mem::swap;
 
-/// A pace by which no trace begins at the pause of this number: of two numbers that follow each other it is no multiple of both, for a number
-/// below their product.
-fn untraced_pace(number: u32) -> Pace
-    requires { 1 ≤ number }
+/// A pace by which no trace begins.
+fn untraced_pace() -> Pace
     ensures pace { IsPace result }
-    ensures apart { number % result.trace ≢ 0 }
+    ensures apart { result.trace ≡ 0 }
 {
-    if number % 1_000_000 == 0 {
-        Pace {
-            trace: 999_999,
-            within: 1,
-        }
-    } else {
-        Pace {
-            trace: 1_000_000,
-            within: 1,
-        }
+    Pace {
+        trace: 0,
+        within: 1,
     }
 }
 
@@ -39,9 +30,9 @@ fn asked(collect: bool) -> Ask
     if collect { Ask::Collect } else { Ask::Ordinary }
 }
 
-/// How many objects a pause leaves, where the one before it left so many, by its report.
-fn left_after(left: u32, report: &Report) -> u32
-    requires few { left + length report.now.promoted.items < 2 ^ 32 }
+/// How many objects a pause leaves by its report, where the one before it left so many, and so many were made.
+fn left_after(left: u32, made: u32, report: &Report) -> u32
+    requires few { left + length report.now.promoted.items ≤ made }
     requires gone { length report.now.dead.items + length report.now.swept.items ≤ left + length report.now.promoted.items }
     ensures { result + (length report.now.dead.items + length report.now.swept.items) ≡ left + length report.now.promoted.items }
 {
@@ -50,13 +41,25 @@ fn left_after(left: u32, report: &Report) -> u32
     left + promoted - gone
 }
 
-/// Reports as dead what was gone before the pause: its names join the dead, in the order of names, and nothing is gone any more.
+/// Puts the longer of two lists first.
+fn longer_first(first: &mut Names, second: &mut Names)
+    ensures { ((first.new ≡ first.old) × (second.new ≡ second.old)) ⊎ ((first.new ≡ second.old) × (second.new ≡ first.old)) }
+{
+    if first.len() < second.len() {
+        swap(first, second);
+    }
+}
+
+/// Reports as dead what was gone before the pause: its names join the dead, in the order of names, and nothing is gone any more. The shorter of
+/// the two lists is copied.
 fn report_gone(dead: &mut Names, gone: &mut Names)
     requires once { IsDistinct (dead.old.items ++ gone.old.items) }
     requires room { length dead.old.items + length gone.old.items ≤ dead.old.room }
+    requires rooms { gone.old.room ≡ dead.old.room }
     ensures dead { dead.new ≡ with_gone dead.old gone.old.items }
-    ensures gone { gone.new ≡ without_names gone.old }
+    ensures gone { (gone.new.items ≡ []) × (gone.new.room ≡ gone.old.room) }
 {
+    longer_first(dead, gone);
     dead.append(gone);
     dead.order();
 }
@@ -72,11 +75,11 @@ pub(crate) fn pause(heap: &mut Heap, collect: bool)
 {
     heap.space.registers.recount(0);
     let ask = asked(collect);
-    let pace = untraced_pace(heap.space.pauses + 1);
+    let pace = untraced_pace();
     one_pause(&mut heap.space, ask, pace);
     report_gone(&mut heap.space.report.dead, &mut heap.gone);
     heap.bodies.after_pause(&heap.space.report);
-    heap.left = left_after(heap.left, &heap.space.report);
+    heap.left = left_after(heap.left, heap.made, &heap.space.report);
     heap.made_before = heap.made;
     heap.fresh = collect;
 }

@@ -70,14 +70,14 @@ abbrev pub is_begun : Option ℕ → ℕ → Bool
 is_begun None j = false
 is_begun (Some began) j = nat_eq began j
 
--- a trace is due at this pause, and none runs
+-- a trace is due at this pause, or any may begin one, and none runs
 abbrev pub begins : Option ℕ → ℕ → ℕ → Bool
-begins None n trace = nat_eq (n % trace) 0
+begins None n trace = nat_eq trace 0 || nat_eq (n % trace) 0
 begins (Some began) n trace = false
 
 -- neither a trace must begin at this pause nor the one that runs end
 abbrev pub goes_on : Option ℕ → ℕ → ℕ → ℕ → Bool
-goes_on None n trace within = not (nat_eq (n % trace) 0)
+goes_on None n trace within = nat_eq trace 0 || not (nat_eq (n % trace) 0)
 goes_on (Some began) n trace within = nat_lt n (began + within)
 
 -- a pause of a kind may stand, by whether it must collect, whether only calls of `new` stand behind the last pause, when the trace began that

@@ -584,12 +584,12 @@ fn is_multiple(number: u64, of: u32) -> bool
     number.is_multiple_of(u64::from(of))
 }
 
-/// Whether a trace is due, and none runs.
+/// Whether a trace is due, or any pause may begin one, and none runs.
 fn is_due(began: Option<u32>, number: u64, trace: u32) -> bool
     ensures { result ≡ begins began number trace }
 {
     match began {
-        None => is_multiple(number, trace),
+        None => trace == 0 || is_multiple(number, trace),
         Some(_) => false,
     }
 }
@@ -599,7 +599,7 @@ fn is_not_due(began: Option<u32>, number: u64, terms: Terms) -> bool
     ensures { result ≡ goes_on began number terms.trace terms.within }
 {
     match began {
-        None => !is_multiple(number, terms.trace),
+        None => terms.trace == 0 || !is_multiple(number, terms.trace),
         Some(began) => number < u64::from(began) + u64::from(terms.within),
     }
 }

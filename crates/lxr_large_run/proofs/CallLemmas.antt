@@ -78,6 +78,7 @@ retold_pauses x y z by h collect paused holds is = record {
       (at', stands_retold y k by k (record { moment = refl; state = refl; reported = refl; fresh = (λ f. f, λ f. f) }) at' there, same));
   stay = subst (λ (w : Heap). StayInBlocks x.bodies.bodies w.bodies.bodies) (sym is) paused.stay;
   terms = ap terms_of is ∙ paused.terms;
+  log = ap (λ (z : Heap). z.space.limits.log) is ∙ paused.log;
 }
 
 -- so it is after one whose names were listed

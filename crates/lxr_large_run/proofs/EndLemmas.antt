@@ -21,18 +21,19 @@ use Rattle.lxr_heap.proofs.MomentLemmas.{quiescent}
 use Rattle.lxr_large_text.specs.Histories.{IsLargeHistory, called_in, replied_in, with_end}
 use Rattle.lxr_large_text.specs.Texts.{large_reports_text}
 use Rattle.lxr_large_text.proofs.HistoryLemmas.{as_many, ends_fresh, has_done}
-use Rattle.lxr_large_run.specs.Playing.{IsPlaying, LargeTask, large_terms}
+use Rattle.lxr_large_run.specs.Playing.{IsPlaying, LargeTask, large_terms, script_sizes}
 use Rattle.lxr_large_run.proofs.CallLemmas.{tells_no_pause}
 use Rattle.lxr_large_run.specs.Played.{IsCutLate, IsLeftByLarge, IsPlayed}
 
 -- ---- the beginning
 
-pub begins : (task : LargeTask) (x : Heap) (blocks bodies : ℕ) (os : List LargeOp) → os ≡ task.operations → IsLargeScript task.operations → IsOpenedHeap x blocks bodies SCRIPT_REGISTERS → task.terms ≡ large_terms blocks bodies
+pub begins : (task : LargeTask) (x : Heap) (blocks bodies : ℕ) (os : List LargeOp) → os ≡ task.operations → IsLargeScript task.operations → IsOpenedHeap x (script_sizes blocks bodies) → task.terms ≡ large_terms blocks bodies
     → IsPlaying task (with_end os) x task.written [] []
 begins task x blocks bodies os same script opened terms = record {
   script = script;
   holds = opened.holds;
   terms = opened.terms ∙ sym terms;
+  log = opened.log;
   registers = ap (λ (t : LargeTerms). t.registers) terms;
   calls = ap with_end same;
   causes = tt;
@@ -94,7 +95,7 @@ space_left task x written replies h p =
     record {
       at = is.at;
       between = quiescent x.space _ (rests_all x h is p.none_gone) c.written;
-      limits = is.limits ∙ ap (λ (t : LargeTerms). limits_of t.blocks t.registers) p.terms;
+      limits = is.limits ∙ ap (λ (t : LargeTerms). limits_of t.blocks t.registers x.space.limits.log) p.terms ∙ ap (λ (n : ℕ). limits_of task.terms.blocks task.terms.registers n) p.log;
       tally = is.tally;
       state = is.state;
       reachable = c.exactly;

@@ -32,6 +32,7 @@ module _ (task : LargeTask) (o : LargeOp) (rest : List LargeOp) (x : Heap) (writ
     script = p.script;
     holds = came.holds;
     terms = came.terms ∙ p.terms;
+    log = came.log ∙ p.log;
     registers = p.registers;
     calls = p.calls;
     causes = any_call_may_come task.terms h o r p.causes;
@@ -55,6 +56,7 @@ module _ (task : LargeTask) (o : LargeOp) (rest : List LargeOp) (x : Heap) (writ
       script = p.script;
       holds = came.holds;
       terms = came.terms ∙ paused.terms ∙ p.terms;
+      log = came.log ∙ paused.log ∙ p.log;
       registers = p.registers;
       calls = p.calls;
       causes = follows r;
@@ -105,6 +107,7 @@ module _ (task : LargeTask) (o : LargeOp) (rest : List LargeOp) (r : LargeReply)
     script = c.script;
     holds = c.holds;
     terms = c.terms;
+    log = c.log;
     registers = c.registers;
     calls = append_assoc (called_in k) (o ∷ []) rest ∙ c.calls;
     causes = unasked_owe_nothing task.terms k o r c.causes (asks_none o none);
@@ -127,6 +130,7 @@ module _ (task : LargeTask) (o : LargeOp) (rest : List LargeOp) (r : LargeReply)
       script = c.script;
       holds = paused.holds;
       terms = paused.terms ∙ c.terms;
+      log = paused.log ∙ c.log;
       registers = c.registers;
       calls = append_assoc (called_in k) (o ∷ []) rest ∙ c.calls;
       causes = followed;

@@ -22,7 +22,7 @@ use Rattle.lxr_large_model.specs.declared.LargeOp.{LargeOp}
 use Rattle.lxr_large_model.specs.declared.LargeOp.TheVariants as large_op
 use Rattle.lxr_large_model.specs.Full.{LargeTerms, LeaveNoBlocks, LeaveNoLines, body_slots, kept_names}
 use Rattle.lxr_large_model.specs.History.{LargeItem, large_moment, large_state}
-use Rattle.lxr_large_model.specs.Pauses.{IsMadeFor}
+use Rattle.lxr_large_model.specs.Pauses.{IsMadeFor, most_logged}
 use Rattle.lxr_large_model.specs.State.{body_of as large_of, handle}
 use Rattle.lxr_large_bodies.specs.Bodies.{Body, body_of}
 use Rattle.lxr_heap.specs.declared.heap.Heap.{Heap}
@@ -91,18 +91,18 @@ room_made x h is gone o may none = absurd none
 -- ---- a full log
 
 -- a plain pause is made for what finds no room in the log
-log_made : (terms : LargeTerms) (x : Heap) (h : List LargeItem) → IsHeapOf x h → (o : LargeOp) → FindsNoLog x (large_moment h) o → IsMadeFor terms h kind.Plain o
-log_made terms x h is (large_op.Small (op.Store base i source)) log =
+log_made : (terms : LargeTerms) (x : Heap) (h : List LargeItem) → IsHeapOf x h → x.space.limits.log ≡ most_logged → (o : LargeOp) → FindsNoLog x (large_moment h) o → IsMadeFor terms h kind.Plain o
+log_made terms x h is many (large_op.Small (op.Store base i source)) log =
     let full = log.1 in
     let few = is.stands.0.safepoint.holds.few_logs in
-    let room = log_room x h is in
+    let (all, some) = log_room x h is in
     let same = logged_are x h is in
-    omega (arith, full, few, room, same)
-log_made terms x h is o log = absurd log
+    omega (arith, full, few, all, many, same)
+log_made terms x h is many o log = absurd log
 
 -- ---- a pause that is wanted
 
 -- it is made for the operation
-pub wanted_made : (terms : LargeTerms) (x : Heap) (h : List LargeItem) → IsHeapOf x h → x.gone.items ≡ [] → (o : LargeOp) (collect : Bool) → MayBeCalled SCRIPT_REGISTERS o → terms_of x ≡ terms → WantsPause x h o collect → IsMadeFor terms h (kind_asked collect) o
-wanted_made terms x h is gone o true may same none = subst (λ t. IsMadeFor t h kind.Collect o) same (room_made x h is gone o may none)
-wanted_made terms x h is gone o false may same log = log_made terms x h is o log
+pub wanted_made : (terms : LargeTerms) (x : Heap) (h : List LargeItem) → IsHeapOf x h → x.gone.items ≡ [] → (o : LargeOp) (collect : Bool) → MayBeCalled SCRIPT_REGISTERS o → terms_of x ≡ terms → x.space.limits.log ≡ most_logged → WantsPause x h o collect → IsMadeFor terms h (kind_asked collect) o
+wanted_made terms x h is gone o true may same many none = subst (λ t. IsMadeFor t h kind.Collect o) same (room_made x h is gone o may none)
+wanted_made terms x h is gone o false may same many log = log_made terms x h is many o log

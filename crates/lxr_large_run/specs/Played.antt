@@ -4,23 +4,23 @@ use Rattle.lxr_layout.specs.declared.Name.{Name}
 use Rattle.lxr_graph.specs.Names.{has}
 use Rattle.lxr_image.specs.declared.space.Space.{Space}
 use Rattle.lxr_image.specs.Opened.{no_tally}
-use Rattle.lxr_text_script.specs.declared.TheConstants.{SCRIPT_REGISTERS}
 use Rattle.lxr_text_stream.specs.Streams.{Appends, AppendsFront}
 use Rattle.lxr_model.specs.Reachable.{Reachable}
 use Rattle.lxr_invariant.specs.Quiescent.{IsQuiescent}
 use Rattle.lxr_large_model.specs.Full.{LargeTerms}
 use Rattle.lxr_large_model.specs.History.{LargeItem, large_moment, large_state}
+use Rattle.lxr_large_model.specs.Pauses.{most_logged}
 use Rattle.lxr_large_text.specs.Limits.{IsLargeScript}
 use Rattle.lxr_heap.specs.Holding.{IsOpenedHeap, abstract_after, limits_of}
 use Rattle.lxr_large_text.specs.Histories.{IsLargeHistory}
 use Rattle.lxr_large_text.specs.Texts.{large_run_text}
 use Rattle.lxr_large_run.specs.declared.LargeRun.{LargeRun}
-use Rattle.lxr_large_run.specs.Playing.{IsCutEarly, LargeTask, TellsPrinted}
+use Rattle.lxr_large_run.specs.Playing.{IsCutEarly, LargeTask, TellsPrinted, script_sizes}
 
--- A run that is ready: its heap has no history yet, of these blocks, of these for bodies and of the registers of scripts, its script is one that can be read, and there is
--- room for each reply.
+-- A run that is ready: its heap has no history yet, of the sizes of a script's, its script is one that can be read, and there is room for each
+-- reply.
 pub record IsReady (run : LargeRun) (blocks bodies : ℕ) : Type 0 where
-  pub opened : IsOpenedHeap run.heap blocks bodies SCRIPT_REGISTERS
+  pub opened : IsOpenedHeap run.heap (script_sizes blocks bodies)
   pub script : IsLargeScript run.operations.items
   pub none : run.replies.items ≡ []
   pub room : length run.operations.items + 1 ≤ run.replies.room
@@ -30,7 +30,7 @@ pub record IsReady (run : LargeRun) (blocks bodies : ℕ) : Type 0 where
 pub record IsLeftByLarge (terms : LargeTerms) (h : List LargeItem) (space : Space) : Type 0 where
   pub at : Name → ℕ
   pub between : IsQuiescent space (abstract_after h at)
-  pub limits : space.limits ≡ limits_of terms.blocks terms.registers
+  pub limits : space.limits ≡ limits_of terms.blocks terms.registers most_logged
   pub tally : space.tally ≡ record no_tally { pauses = space.pauses }
   pub state : (large_moment h).state ≡ (large_state h).small
   pub reachable : (n : Name) → IsTrue (has (large_moment h).unreclaimed n) ↔ Reachable (large_moment h).state n

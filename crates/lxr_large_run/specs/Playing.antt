@@ -9,9 +9,10 @@ use Rattle.lxr_large_model.specs.declared.LargeOp.{LargeOp}
 use Rattle.lxr_large_model.specs.declared.LargeReply.{LargeReply}
 use Rattle.lxr_large_model.specs.Full.{LargeTerms}
 use Rattle.lxr_large_model.specs.History.{LargeItem, Called}
-use Rattle.lxr_large_model.specs.Pauses.{PausesHaveCauses}
+use Rattle.lxr_large_model.specs.Pauses.{PausesHaveCauses, most_logged}
 use Rattle.lxr_large_text.specs.Limits.{IsLargeScript}
 use Rattle.lxr_heap.specs.declared.heap.Heap.{Heap}
+use Rattle.lxr_heap.specs.declared.opening.Sizes.{Sizes}
 use Rattle.lxr_heap.specs.Holding.{IsHeapOf, terms_of}
 use Rattle.lxr_large_text.specs.Histories.{EndsAtPause, IsLargeSoFar, called_in, replied_in, with_end}
 use Rattle.lxr_large_text.specs.Texts.{large_reports_text}
@@ -20,6 +21,10 @@ use Rattle.lxr_heap.specs.Acting.{WantsPause}
 -- what a script is played on: so many blocks, so many for bodies, and the registers of scripts
 abbrev pub large_terms : ℕ → ℕ → LargeTerms
 large_terms blocks bodies = record { blocks = blocks; bodies = bodies; registers = SCRIPT_REGISTERS }
+
+-- the sizes of the heap that a script is played on: it records as many stores between two pauses as its histories have at most
+abbrev pub script_sizes : ℕ → ℕ → Sizes
+script_sizes blocks bodies = record { blocks = blocks; bodies = bodies; registers = SCRIPT_REGISTERS; log = most_logged }
 
 -- What playing begins with: how many blocks there are, whether counts are printed, the operations of the script, and what was written before it,
 -- where it is told.
@@ -40,6 +45,7 @@ pub record IsPlaying (task : LargeTask) (rest : List LargeOp) (x : Heap) (writte
   pub script : IsLargeScript task.operations
   pub holds : IsHeapOf x h
   pub terms : terms_of x ≡ task.terms
+  pub log : x.space.limits.log ≡ most_logged
   pub registers : task.terms.registers ≡ SCRIPT_REGISTERS
   pub calls : called_in h ++ rest ≡ with_end task.operations
   pub causes : PausesHaveCauses task.terms [] h
@@ -56,6 +62,7 @@ pub record HasCome (task : LargeTask) (o : LargeOp) (rest : List LargeOp) (r : L
   pub script : IsLargeScript task.operations
   pub holds : IsHeapOf x (Called o r ∷ k)
   pub terms : terms_of x ≡ task.terms
+  pub log : x.space.limits.log ≡ most_logged
   pub registers : task.terms.registers ≡ SCRIPT_REGISTERS
   pub calls : called_in k ++ o ∷ rest ≡ with_end task.operations
   pub causes : PausesHaveCauses task.terms (Called o r ∷ []) k

@@ -14,7 +14,7 @@ ghost use Rattle.lxr_large_run.specs.Playing.{large_terms};
 mod playing;
 
 use lxr_base::Listed;
-use lxr_heap::LargeHeap;
+use lxr_heap::{LargeHeap, Sizes};
 use lxr_image::Space;
 use lxr_large_model::LargeReply;
 use lxr_large_text::{LargeOperations, print_large};
@@ -22,6 +22,9 @@ use lxr_text_script::SCRIPT_REGISTERS;
 use lxr_text_stream::{Sink, WriteError};
 use playing::play_all;
 use std::alloc::{AllocError, Global};
+
+/// How many overwritten references the heap of a script records between two pauses at most.
+const SCRIPT_LOG: u32 = 1_024;
 
 /// A script that is to be played, with its heap and the room for its replies: all memory that playing takes.
 #[derive(Drop)]
@@ -44,7 +47,13 @@ pub fn open_large(
     ensures ready { IfOk result (λ run. IsReady run blocks bodies) }
     ensures script { IfOk result (λ run. run.operations ≡ operations) }
 {
-    let heap = LargeHeap::open(alloc, blocks, bodies, SCRIPT_REGISTERS)?;
+    let sizes = Sizes {
+        blocks,
+        bodies,
+        registers: SCRIPT_REGISTERS,
+        log: SCRIPT_LOG,
+    };
+    let heap = LargeHeap::open(alloc, sizes)?;
     let replies = Listed::with_room(alloc, operations.len() + 1)?;
     Ok(LargeRun {
         heap,

@@ -45,14 +45,18 @@ abbrev pub IsRunning : ℕ → Option Trace → Type 0
 IsRunning j None = ⊥
 IsRunning j (Some trace) = trace.began ≡ j
 
--- neither must a trace begin at pause k nor must the one that runs end there
+-- a trace may begin at pause k, where none runs: at each multiple of a number, or at any pause where the terms leave it free, by 0
+abbrev pub MayBegin : Terms → ℕ → Type 0
+MayBegin terms k = (terms.trace ≡ 0) ⊎ (k % terms.trace ≡ 0)
+
+-- neither must a trace begin at pause k nor must the one that runs end there; where the terms leave it free none ever must begin
 abbrev pub NeedsNoTrace : Terms → ℕ → Option Trace → Type 0
-NeedsNoTrace terms k None = k % terms.trace ≢ 0
+NeedsNoTrace terms k None = (terms.trace ≡ 0) ⊎ (k % terms.trace ≢ 0)
 NeedsNoTrace terms k (Some trace) = k < trace.began + terms.within
 
 -- pause k may be of this kind, after h, which leads to m
 abbrev pub MayStand : Terms → List Item → Moment → ℕ → Kind → Type 0
 MayStand terms h m k kind.Collect = MayCollect terms h
 MayStand terms h m k (kind.End j) = ¬ MustCollect terms h × IsRunning j m.trace
-MayStand terms h m k kind.Begin = ¬ MustCollect terms h × (m.trace ≡ None) × (k % terms.trace ≡ 0)
+MayStand terms h m k kind.Begin = ¬ MustCollect terms h × (m.trace ≡ None) × MayBegin terms k
 MayStand terms h m k kind.Plain = ¬ MustCollect terms h × NeedsNoTrace terms k m.trace

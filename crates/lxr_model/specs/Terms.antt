@@ -2,8 +2,8 @@
 use Rattle.std.specs.Prelude.{ℕ, Bool}
 
 -- threads, and how many registers the operations of each may name, the first ones; blocks, and how many of these are chosen for evacuation at
--- most; calls of a thread between two pauses; entries of a log; every how many pauses a trace begins, and within how many it ends; and whether
--- names are ever renewed
+-- most; calls of a thread between two pauses; entries of a log; every how many pauses a trace begins, 0 where any pause may begin one, and
+-- within how many it ends; and whether names are ever renewed
 pub record Terms : Type 0 where
   pub threads : ℕ
   pub registers : ℕ

@@ -1,6 +1,6 @@
 -- Each test of an item is right: where it holds, so does what it stands for.
 use Rattle.std.proofs.Common.{◌≡◌, ◌≢◌, ℕ, ◌+◌, ◌-◌, ◌%◌, ◌<◌, refl, ap, subst, inl, inr, arith, List, [], ◌∷◌, IsTrue, nat_eq, nat_lt}
-use Rattle.std.specs.Prelude.{Option, Some, None, nat_le, not, ◌&&◌}
+use Rattle.std.specs.Prelude.{Option, Some, None, nat_le, not, ◌&&◌, ◌||◌}
 use Rattle.std.proofs.lemmas.Bool.{or_cases, or_left, or_right, and_parts, and_from, not-true, not_from_false, false_from_ne_true}
 use Rattle.lxr_layout.specs.declared.Name.{Name}
 use Rattle.lxr_layout.specs.declared.Shape.{Shape}
@@ -20,7 +20,7 @@ use Rattle.lxr_graph.proofs.NameSets.{not_both, has_one, in_order-without, witho
 use Rattle.lxr_model.specs.Reachable.{Reachable}
 use Rattle.lxr_model.specs.Terms.{Terms}
 use Rattle.lxr_model.specs.Moments.{Trace, Moment, moment}
-use Rattle.lxr_model.specs.Kinds.{collect_called, ends, MustCollect, MayCollect, OnlyNewsSincePause, IsRunning, NeedsNoTrace, MayStand}
+use Rattle.lxr_model.specs.Kinds.{collect_called, ends, MustCollect, MayCollect, OnlyNewsSincePause, IsRunning, MayBegin, NeedsNoTrace, MayStand}
 use Rattle.lxr_model.specs.Reports.{IsReport}
 use Rattle.lxr_model.specs.Full.{LeaveNoRun, IsRightAfterCollecting, MayBeFull, slots_in, slots_taken}
 use Rattle.lxr_model.specs.Legal.{Replies, StandsForWaiting, IsWaitedFor, KeepsPromise, MayFollow, IsLegalSoFar, IsLegal, OwesNoCall}
@@ -77,12 +77,18 @@ running_right j (Some trace) e = eq_from_test trace.began j e
 running_some : (j : ℕ) (trace : Option Trace) → IsTrue (is_running j trace) → trace ≢ None
 running_some j trace e k = not_both (is_running j trace) e (ap (is_running j) k)
 
-begin_right : (terms : Terms) (k : ℕ) (trace : Option Trace) → IsTrue (may_begin terms k trace) → (trace ≡ None) × (k % terms.trace ≡ 0)
-begin_right terms k None e = (refl, eq_from_test (k % terms.trace) 0 e)
+begin_right : (terms : Terms) (k : ℕ) (trace : Option Trace) → IsTrue (may_begin terms k trace) → (trace ≡ None) × MayBegin terms k
+begin_right terms k None e = elim (or_cases (nat_eq terms.trace 0) (nat_eq (k % terms.trace) 0) e) [
+  | inl free ↦ (refl, inl (eq_from_test terms.trace 0 free))
+  | inr due ↦ (refl, inr (eq_from_test (k % terms.trace) 0 due))
+]
 begin_right terms k (Some trace) e = absurd (cc)
 
 no_trace_right : (terms : Terms) (k : ℕ) (trace : Option Trace) → IsTrue (needs_no_trace terms k trace) → NeedsNoTrace terms k trace
-no_trace_right terms k None e = ne_from_test (k % terms.trace) 0 e
+no_trace_right terms k None e = elim (or_cases (nat_eq terms.trace 0) (not (nat_eq (k % terms.trace) 0)) e) [
+  | inl free ↦ inl (eq_from_test terms.trace 0 free)
+  | inr apart ↦ inr (ne_from_test (k % terms.trace) 0 apart)
+]
 no_trace_right terms k (Some trace) e = lt_from_test k (trace.began + terms.within) e
 
 pub stand_right : (terms : Terms) (h : List Item) (m : Moment) (k : ℕ) (i : Kind) → IsTrue (may_stand terms h m.trace k i) → MayStand terms h m k i × CanBe m i

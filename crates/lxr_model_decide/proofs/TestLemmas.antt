@@ -20,7 +20,7 @@ use Rattle.lxr_graph.proofs.FormLemmas.{formed_for}
 use Rattle.lxr_graph.proofs.NameSets.{not_both}
 use Rattle.lxr_model.specs.Terms.{Terms}
 use Rattle.lxr_model.specs.Moments.{Trace, Moment, moment}
-use Rattle.lxr_model.specs.Kinds.{collect_called, ends, MustCollect, MayCollect, OnlyNewsSincePause, IsRunning, NeedsNoTrace, MayStand}
+use Rattle.lxr_model.specs.Kinds.{collect_called, ends, MustCollect, MayCollect, OnlyNewsSincePause, IsRunning, MayBegin, NeedsNoTrace, MayStand}
 use Rattle.lxr_model.specs.Full.{LeaveNoRun, IsRightAfterCollecting, MayBeFull, slots_in, slots_taken}
 use Rattle.lxr_model.specs.Legal.{Replies, StandsForWaiting, IsWaitedFor, KeepsPromise, MayFollow, IsLegalSoFar, OwesNoCall}
 use Rattle.lxr_model_decide.specs.Sets.{reachable_names}
@@ -65,12 +65,14 @@ running_test : (j : ℕ) (trace : Option Trace) → IsRunning j trace → IsTrue
 running_test j None e = absurd e
 running_test j (Some trace) e = test_from_eq trace.began j e
 
-begin_test : (terms : Terms) (k : ℕ) (trace : Option Trace) → trace ≡ None → k % terms.trace ≡ 0 → IsTrue (may_begin terms k trace)
-begin_test terms k None none e = test_from_eq (k % terms.trace) 0 e
+begin_test : (terms : Terms) (k : ℕ) (trace : Option Trace) → trace ≡ None → MayBegin terms k → IsTrue (may_begin terms k trace)
+begin_test terms k None none (inl free) = or_left (nat_eq terms.trace 0) (nat_eq (k % terms.trace) 0) (test_from_eq terms.trace 0 free)
+begin_test terms k None none (inr e) = or_right (nat_eq terms.trace 0) (nat_eq (k % terms.trace) 0) (test_from_eq (k % terms.trace) 0 e)
 begin_test terms k (Some trace) none e = absurd (cc)
 
 no_trace_test : (terms : Terms) (k : ℕ) (trace : Option Trace) → NeedsNoTrace terms k trace → IsTrue (needs_no_trace terms k trace)
-no_trace_test terms k None e = test_from_ne (k % terms.trace) 0 e
+no_trace_test terms k None (inl free) = or_left (nat_eq terms.trace 0) (not (nat_eq (k % terms.trace) 0)) (test_from_eq terms.trace 0 free)
+no_trace_test terms k None (inr e) = or_right (nat_eq terms.trace 0) (not (nat_eq (k % terms.trace) 0)) (test_from_ne (k % terms.trace) 0 e)
 no_trace_test terms k (Some trace) e = test_from_lt k (trace.began + terms.within) e
 
 stand_test : (terms : Terms) (h : List Item) (m : Moment) (k : ℕ) (i : Kind) → MayStand terms h m k i → IsTrue (may_stand terms h m.trace k i)

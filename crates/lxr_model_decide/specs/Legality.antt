@@ -45,14 +45,14 @@ abbrev pub is_running : ℕ → Option Trace → Bool
 is_running j None = false
 is_running j (Some trace) = nat_eq trace.began j
 
--- a trace is due at pause k, and none runs
+-- a trace is due at pause k, or any may begin one, and none runs
 abbrev pub may_begin : Terms → ℕ → Option Trace → Bool
-may_begin terms k None = nat_eq (k % terms.trace) 0
+may_begin terms k None = nat_eq terms.trace 0 || nat_eq (k % terms.trace) 0
 may_begin terms k (Some trace) = false
 
 -- neither must a trace begin at pause k nor must the one that runs end there
 abbrev pub needs_no_trace : Terms → ℕ → Option Trace → Bool
-needs_no_trace terms k None = not (nat_eq (k % terms.trace) 0)
+needs_no_trace terms k None = nat_eq terms.trace 0 || not (nat_eq (k % terms.trace) 0)
 needs_no_trace terms k (Some trace) = nat_lt k (trace.began + terms.within)
 
 -- pause k may be of this kind after h, where this trace runs

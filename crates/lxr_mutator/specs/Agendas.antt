@@ -1,5 +1,5 @@
 -- An agenda's fields: what contracts see of them, and what holds of them.
-use Rattle.std.specs.Prelude.{◌≡◌, ◌+◌, ◌≤◌, Option, Some, None, length}
+use Rattle.std.specs.Prelude.{◌≡◌, ◌+◌, ◌<◌, ◌≤◌, Option, Some, None, length}
 use Rattle.lxr_alloc.specs.declared.TheConstants.{MOST_OPERATIONS}
 use Rattle.lxr_mutator.specs.declared.agenda.Agenda.TheInside.{Inside}
 use Rattle.lxr_mutator.specs.declared.agenda.Kept.{Kept}
@@ -25,11 +25,11 @@ abbrev pub IsKeptIn : Dialogue → Option Kept → Type 0
 IsKeptIn d (Some kept) = AreKept d kept
 IsKeptIn d None = IsUnkept d
 
--- the fields tell the counts, the operation at hand and the newest reply
+-- the fields tell the counts, the newest reply, and the operation at hand while there is one without a reply
 pub record IsAgenda (a : Inside) : Type 0 where
   pub ordered : a.ordered ≡ length a.orders.items
   pub answered : a.answered ≡ length a.answers.items
   pub most : a.most ≤ MOST_OPERATIONS + 1
-  pub at_hand : a.at_hand ≡ op_at_hand (dialogue a)
+  pub at_hand : length a.answers.items < length a.orders.items → a.at_hand ≡ op_at_hand (dialogue a)
   pub newest : a.newest ≡ newest (dialogue a)
   pub kept : IsKeptIn (dialogue a) a.kept

@@ -11,7 +11,7 @@ abbrev pub kept_with : Option Kept → Reply → Option Kept
 kept_with (Some k) r = Some (record k { replies = pushed k.replies r })
 kept_with None r = None
 
--- the operation whose turn it is then, and the thread's end where none are kept
-abbrev pub next_kept : Option Kept → Op
-next_kept (Some k) = slice_index_or k.operations.items (length k.replies.items + 1) op.End
-next_kept None = op.End
+-- the operation whose turn it is then, and where none are kept the one that it was
+abbrev pub next_kept : Option Kept → Op → Op
+next_kept (Some k) o = slice_index_or k.operations.items (length k.replies.items + 1) op.End
+next_kept None o = o

@@ -25,7 +25,7 @@ pub struct Agenda {
     answered: u32,
     /// For how many operations, with their replies, there is room.
     most: u32,
-    /// The operation whose turn it is, or the thread's end.
+    /// The operation whose turn it is, while there is one without a reply.
     at_hand: Op,
     newest: Option<Reply>,
     kept: Option<Kept>,
@@ -124,6 +124,19 @@ impl Agenda {
     pub fn op(&self) -> Op
         ensures { result ≡ op_at_hand self.now }
     {
+        if self.answered < self.ordered {
+            self.at_hand
+        } else {
+            Op::End
+        }
+    }
+
+    /// The same where an operation has no reply yet.
+    #[inline(always)]
+    pub fn open_op(&self) -> Op
+        requires { length self.now.replies.items < length self.now.operations }
+        ensures { result ≡ op_at_hand self.now }
+    {
         self.at_hand
     }
 
@@ -173,7 +186,10 @@ impl Agenda {
         self.answers = self.answers.and(&reply);
         self.answered += 1;
         self.newest = Some(reply);
-        self.at_hand = keep_reply(&mut self.kept, reply);
+        let Some(newest) = &self.newest else {
+            unreachable!();
+        };
+        keep_reply(&mut self.kept, newest, &mut self.at_hand);
     }
 
     /// Begins anew: the operation that is open, if one is, is the only one, and there are no replies. The thread is a live one.
@@ -225,27 +241,27 @@ impl Agenda {
 
 impl Kept {
     /// Puts a reply behind those that there are, and tells the operation whose turn it is then.
+    #[cold]
     #[inline(never)]
-    fn answer(&mut self, reply: Reply) -> Op
+    fn answer(&mut self, reply: &Reply, at_hand: &mut Op)
         requires { length self.old.replies.items < self.old.replies.room }
-        ensures kept { self.new ≡ record self.old { replies = pushed self.old.replies reply } }
-        ensures next { result ≡ slice_index_or self.old.operations.items (length self.old.replies.items + 1) Op.End }
+        ensures kept { self.new ≡ record self.old { replies = pushed self.old.replies reply.now } }
+        ensures next { at_hand.new ≡ slice_index_or self.old.operations.items (length self.old.replies.items + 1) Op.End }
     {
-        self.replies.push(reply);
-        operation_at(&self.operations, self.replies.len())
+        self.replies.push(*reply);
+        *at_hand = operation_at(&self.operations, self.replies.len());
     }
 }
 
-/// Puts a reply into the lists that are kept, and tells the operation whose turn it is then; where none are kept, the thread's end.
+/// Puts a reply into the lists that are kept, and tells the operation whose turn it is then; where none are kept, that stays what it was.
 #[inline(always)]
-fn keep_reply(kept: &mut Option<Kept>, reply: Reply) -> Op
+fn keep_reply(kept: &mut Option<Kept>, reply: &Reply, at_hand: &mut Op)
     requires { IfSome kept.old (λ k. length k.replies.items < k.replies.room) }
-    ensures kept { kept.new ≡ kept_with kept.old reply }
-    ensures next { result ≡ next_kept kept.old }
+    ensures kept { kept.new ≡ kept_with kept.old reply.now }
+    ensures next { at_hand.new ≡ next_kept kept.old at_hand.old }
 {
-    match kept {
-        Some(kept) => kept.answer(reply),
-        None => Op::End,
+    if let Some(kept) = kept {
+        kept.answer(reply, at_hand);
     }
 }
 

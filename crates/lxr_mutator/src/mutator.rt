@@ -431,6 +431,30 @@ impl Mutator {
         self.agenda.op()
     }
 
+    /// The same where an operation is open.
+    #[inline(always)]
+    fn open_op(&self) -> Op
+        requires { length self.now.replies.items < length self.now.operations }
+        ensures op { result ≡ op_now self.now }
+        ensures formed { IsFormedFor self.now.width result }
+        ensures named { dest_of result < self.now.width }
+        ensures fits { FitsShape (shape_made result) }
+    {
+        self.agenda.open_op()
+    }
+
+    /// The same, which the caller tells.
+    #[inline(always)]
+    fn told_op(&self, op: Op) -> Op
+        requires op { op ≡ op_now self.now }
+        ensures op { result ≡ op_now self.now }
+        ensures formed { IsFormedFor self.now.width result }
+        ensures named { dest_of result < self.now.width }
+    {
+        self.operation();
+        op
+    }
+
     /// Says again which operation's turn it is, so that the code that follows is made for that one alone, where it is known.
     #[inline(always)]
     fn recall(&mut self, op: Op)
@@ -443,10 +467,11 @@ impl Mutator {
     /// The shape of what the `new` in progress makes.
     #[inline(always)]
     fn shape(&self) -> Shape
+        requires { length self.now.replies.items < length self.now.operations }
         ensures shape { result ≡ shape_now self.now }
         ensures fits { FitsShape result }
     {
-        shape_made(self.op())
+        shape_made(self.open_op())
     }
 
     /// Sets what a register holds.

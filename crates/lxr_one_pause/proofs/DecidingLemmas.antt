@@ -1,7 +1,7 @@
 -- Whether anything was left to trace at a safepoint can be decided, so a pause has a kind; and where a trace runs, the bits that are gray
 -- once counting is done tell it.
 use Rattle.std.proofs.Common.{◌≡◌, ◌≢◌, ℕ, zero, suc, ◌+◌, refl, sym, ap, subst, ◌∙◌, inl, inr, ◌⊎◌, arith, Bool, true, false, List, [], ◌∷◌, IsTrue}
-use Rattle.std.specs.Prelude.{◌↔◌, ◌||◌, Option, Some, None, slice_get, nat_eq, nat_le, cond, ◌%◌}
+use Rattle.std.specs.Prelude.{◌↔◌, ◌||◌, ◌&&◌, not, Option, Some, None, slice_get, nat_eq, nat_le, cond, ◌%◌}
 use Rattle.std.specs.Option.{option_map}
 use Rattle.std.proofs.lemmas.Bool.Decides.{eqb_tells}
 use Rattle.lxr_layout.specs.declared.Name.{Name}
@@ -118,22 +118,27 @@ grays_used s m at h = avoids_by_starts (tables_of s) ToScan (starts_used s m at 
 -- a trace ends where one runs
 pub ends_running : (asked : Ask) (pace : Pace) (k : ℕ) (trace : Option Trace) (traced : Bool) (j : ℕ) → kind_of asked pace k trace traced ≡ kind.End j → (t : Trace) × (trace ≡ Some t)
 ends_running ask.Collect pace k trace traced j e = absurd (cc)
-ends_running ask.Ordinary pace k None traced j e = absurd (never (nat_eq (k % pace.trace) 0) j e)
+ends_running ask.Trace pace k None traced j e = absurd (cc)
+ends_running ask.Trace pace k (Some t) traced j e = (t, refl)
+ends_running ask.Ordinary pace k None traced j e = absurd (never (not (nat_eq pace.trace 0) && nat_eq (k % pace.trace) 0) j e)
   where
     never : (b : Bool) (j : ℕ) → cond b kind.Begin kind.Plain ≡ kind.End j → ⊥
     never true j e = cc
     never false j e = cc
 ends_running ask.Ordinary pace k (Some t) traced j e = (t, refl)
 
+-- along one none begins
+none_along : (b : Bool) (j : ℕ) → cond b (kind.End j) kind.Plain ≡ kind.Begin → ⊥
+none_along true j e = cc
+none_along false j e = cc
+
 -- and one begins where none runs
 pub begins_apart : (asked : Ask) (pace : Pace) (k : ℕ) (trace : Option Trace) (traced : Bool) → kind_of asked pace k trace traced ≡ kind.Begin → trace ≡ None
 begins_apart ask.Collect pace k trace traced e = absurd (cc)
+begins_apart ask.Trace pace k None traced e = refl
+begins_apart ask.Trace pace k (Some t) traced e = absurd (none_along (traced || nat_le (t.began + pace.within) k) t.began e)
 begins_apart ask.Ordinary pace k None traced e = refl
-begins_apart ask.Ordinary pace k (Some t) traced e = absurd (never (traced || nat_le (t.began + pace.within) k) t.began e)
-  where
-    never : (b : Bool) (j : ℕ) → cond b (kind.End j) kind.Plain ≡ kind.Begin → ⊥
-    never true j e = cc
-    never false j e = cc
+begins_apart ask.Ordinary pace k (Some t) traced e = absurd (none_along (traced || nat_le (t.began + pace.within) k) t.began e)
 
 module _ (s k : Space) (g : AbstractState) (asked : Ask) (pace : Pace) (can : CanPause s g) (at' : Name → ℕ) (gone : List Name) (settles : SettlesCounts s k g at' gone) where
   test : (b : Bool) × (IsTrue b ↔ NothingIsLeft (tables_of s) g.moment g.at s.logged.items gone)

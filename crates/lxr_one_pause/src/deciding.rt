@@ -43,12 +43,11 @@ fn kind_along(space: &Space, pace: Pace, began: u32) -> Kind
     }
 }
 
-/// The kind of an ordinary pause of this number where no trace runs: one begins at each multiple of the pace.
+/// The kind of an ordinary pause of this number where no trace runs: one begins at each multiple of the pace, and at none by 0.
 fn kind_apart(number: u32, pace: Pace) -> Kind
-    requires { IsPace pace }
     ensures { result ≡ is_apart pace number }
 {
-    if number % pace.trace == 0 {
+    if pace.trace != 0 && number % pace.trace == 0 {
         Kind::Begin
     } else {
         Kind::Plain
@@ -66,6 +65,10 @@ pub(crate) fn decide_kind(space: &Space, ask: Ask, pace: Pace) -> Kind
 {
     match ask {
         Ask::Collect => Kind::Collect,
+        Ask::Trace => match space.trace {
+            Some(began) => kind_along(space, pace, began),
+            None => Kind::Begin,
+        },
         Ask::Ordinary => match space.trace {
             Some(began) => kind_along(space, pace, began),
             None => kind_apart(space.report.number, pace),

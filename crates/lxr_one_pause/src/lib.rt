@@ -31,6 +31,8 @@ use tracing::trace_by_kind;
 pub enum Ask {
     /// What there is to do at this pause.
     Ordinary,
+    /// That, and to begin a trace where none runs.
+    Trace,
     /// To trace by itself and to reclaim all that is unreachable.
     Collect,
 }
@@ -38,7 +40,7 @@ pub enum Ask {
 /// When traces begin and end.
 #[derive(Clone, Copy, Debug, PartialEq, Eq)]
 pub struct Pace {
-    /// Where no trace runs, one begins at each pause whose number is a multiple of this.
+    /// Where no trace runs, one begins at each pause whose number is a multiple of this; 0: only where it is asked for.
     pub trace: u32,
     /// A trace ends at the latest so many pauses after it began.
     pub within: u32,

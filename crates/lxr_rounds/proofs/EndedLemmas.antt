@@ -1,7 +1,8 @@
 -- Whether all threads have ended after an epoch, what its pause is asked for then, and how much is left.
-use Rattle.std.proofs.Common.{◌≡◌, ℕ, zero, suc, ◌≤◌, ◌⊎◌, refl, sym, ap, subst, ◌∙◌, inl, inr, ⊎_elim, arith, Bool, true, false, ◌↔◌, ◌||◌, IsTrue, List, [], ◌∷◌}
-use Rattle.std.specs.Prelude.{Option, Some, None, slice_get}
+use Rattle.std.proofs.Common.{◌≡◌, ℕ, zero, suc, ◌≤◌, ◌⊎◌, refl, sym, ap, subst, ◌∙◌, inl, inr, ⊎_elim, arith, Bool, true, false, ◌↔◌, ◌&&◌, ◌||◌, IsTrue, List, [], ◌∷◌}
+use Rattle.std.specs.Prelude.{Option, Some, None, nat_eq, slice_get}
 use Rattle.std.specs.List.{All, list_any}
+use Rattle.std.proofs.lemmas.Bool.{eqb-true}
 use Rattle.std.proofs.lemmas.List.Elements.{All-nil, All-cons, All-head, All-tail}
 use Rattle.lxr_graph.specs.History.{Item}
 use Rattle.lxr_image.specs.declared.space.Space.{Space}
@@ -17,9 +18,10 @@ use Rattle.lxr_mutator.specs.Mutating.{Mutating, has_collected}
 use Rattle.lxr_core.specs.declared.actors.AnyActor.{AnyActor}
 use Rattle.lxr_core.specs.declared.actors.AnyActor.TheVariants as any
 use Rattle.lxr_core.specs.Actors.{mutators_in, script_of}
-use Rattle.lxr_rounds_invariant.specs.LoopInvariant.{HasMore, HasRunEpoch, HaveActors, HaveEnded, HaveMutators, Task, asked_by, done_of, left_of, pace_of, terms_of}
+use Rattle.lxr_rounds_invariant.specs.LoopInvariant.{HasMore, HasRunEpoch, HaveActors, HaveEnded, HaveMutators, IsAskedWhereDue, Task, asked_by, done_of, left_of, pace_of, terms_of}
 use Rattle.lxr_rounds_invariant.proofs.ActorLemmas.{are_within, done_and_left, ends_are_all, ends_are_fewer, steps_of}
 use Rattle.lxr_rounds_invariant.proofs.KindLemmas.{asked_right}
+use Rattle.lxr_rounds.specs.Following.{asked_for}
 use Rattle.lxr_rounds.specs.Pausing.{HasComeToPause}
 use Rattle.lxr_rounds.specs.Ending.{HasEnded, NoneGoesOn, actor_collected}
 
@@ -83,20 +85,31 @@ collected_among (any.Decrementer d ∷ actors) = collected_among actors
 collected_among (any.Tracer d ∷ actors) = collected_among actors
 
 -- the pause after an epoch is asked to collect exactly where it must
-pub asks_right : (task : Task) (space : Space) (seen : Option (List Sight)) (before actors : List AnyActor) (h : List Item) (g : AbstractState) (ended collects : Bool) (asked : Ask)
-    → HasRunEpoch task space seen before actors h g → (IsTrue ended ↔ All NoneGoesOn actors) → collects ≡ (ended || list_any actor_collected actors) → asked ≡ asked_by collects
+pub asks_right : (task : Task) (space : Space) (seen : Option (List Sight)) (before actors : List AnyActor) (h : List Item) (g : AbstractState) (ended collects begins : Bool) (asked : Ask)
+    → HasRunEpoch task space seen before actors h g → (IsTrue ended ↔ All NoneGoesOn actors) → collects ≡ (ended || list_any actor_collected actors) → asked ≡ asked_by collects begins
     → (asked ≡ ask.Collect) ↔ MustCollect (terms_of task) h
-asks_right task space seen before actors h g ended collects asked ran means shall is =
-    subst (λ a. (a ≡ ask.Collect) ↔ MustCollect (terms_of task) h) (sym (is ∙ ap asked_by shall))
-    (subst (λ b. (asked_by (ended || b) ≡ ask.Collect) ↔ MustCollect (terms_of task) h) (sym (collected_among actors))
+asks_right task space seen before actors h g ended collects begins asked ran means shall is =
+    subst (λ a. (a ≡ ask.Collect) ↔ MustCollect (terms_of task) h) (sym (is ∙ ap (λ c. asked_by c begins) shall))
+    (subst (λ b. (asked_by (ended || b) begins ≡ ask.Collect) ↔ MustCollect (terms_of task) h) (sym (collected_among actors))
     (asked_right (terms_of task) h ended (list_any has_collected (mutators_in actors))
     (λ e. ends_are_all task h (mutators_in actors) ran.come.history.0 ran.actors_rest.mutators (have_all_ended task h actors ran.actors_rest (means.0 e)))
     (λ e. ends_are_fewer task h (mutators_in actors) ran.come.history.0 ran.actors_rest.mutators (has_more actors (not_told ended means e)))
-    ran.collects))
+    ran.collects begins))
+
+-- it is asked to begin a trace only where the plan leaves that free
+pub traces_right : (task : Task) (begins collects : Bool) (asked : Ask) → asked ≡ asked_for task begins collects → asked ≡ ask.Trace → task.plan.trace ≡ 0
+traces_right task begins collects asked is traces = eqb-true task.plan.trace 0 (free collects (begins && nat_eq task.plan.trace 0) (sym is ∙ traces) begins (nat_eq task.plan.trace 0) refl)
+  where
+    free : (collects b : Bool) → asked_by collects b ≡ ask.Trace → (begins none : Bool) → b ≡ (begins && none) → none ≡ true
+    free true b e begins none is = absurd (cc)
+    free false true e true true is = refl
+    free false true e true false is = absurd (cc)
+    free false true e false none is = absurd (cc)
+    free false false e begins none is = absurd (cc)
 
 -- and it is due
 pub comes : (task : Task) (space : Space) (seen : Option (List Sight)) (before actors : List AnyActor) (h : List Item) (g : AbstractState) (pace : Pace) (asked : Ask)
-    → pace_of task.plan ≡ pace → HasRunEpoch task space seen before actors h g → (asked ≡ ask.Collect) ↔ MustCollect (terms_of task) h
+    → pace_of task.plan ≡ pace → HasRunEpoch task space seen before actors h g → IsAskedWhereDue task h asked
     → HasComeToPause asked pace task space seen h g
 comes task space seen before actors h g pace asked paced ran right = record { come = ran.come; due = ran.due; right = inl right; paced = paced }
 

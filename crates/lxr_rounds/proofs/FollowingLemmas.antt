@@ -1,7 +1,7 @@
 -- The pause after an epoch is due and asked right. Behind it all threads have ended, or waiting `new`s are answered and the run is between epochs
 -- again.
-use Rattle.std.proofs.Common.{◌≡◌, ◌↔◌, IsTrue, ℕ, ◌+◌, ◌*◌, ◌≤◌, refl, sym, ap, subst, ◌∙◌, arith, Bool, false, true, ◌||◌, List, ◌∷◌, length}
-use Rattle.std.specs.Prelude.{Option}
+use Rattle.std.proofs.Common.{◌≡◌, ◌↔◌, IsTrue, ℕ, ◌+◌, ◌*◌, ◌≤◌, refl, sym, ap, subst, ◌∙◌, arith, Bool, false, true, ◌&&◌, ◌||◌, List, ◌∷◌, length}
+use Rattle.std.specs.Prelude.{Option, nat_eq}
 use Rattle.std.specs.List.{All, list_any}
 use Rattle.lxr_graph.specs.History.{Item, Pause, PauseReport}
 use Rattle.lxr_image.specs.declared.space.Space.{Space}
@@ -23,23 +23,23 @@ use Rattle.lxr_rounds_invariant.proofs.EndLemmas.{run_to}
 use Rattle.lxr_rounds_invariant.proofs.PauseLemmas.{can_pause, counts_fit}
 use Rattle.lxr_rounds_invariant.proofs.TurnLemmas.{runs_go_on}
 use Rattle.lxr_rounds.specs.Answering.{AnswersWaiting}
-use Rattle.lxr_rounds.specs.Following.{IsFollowedByPause, IsLast, IsNextDue}
+use Rattle.lxr_rounds.specs.Following.{IsFollowedByPause, IsLast, IsNextDue, asked_for}
 use Rattle.lxr_rounds.specs.Pausing.{HasComeToPause, MakesPause, PausesBehind, with_logs_counted}
 use Rattle.lxr_rounds.specs.Ending.{NoneGoesOn, actor_collected}
 use Rattle.lxr_rounds.specs.Serving.{BeginsServing}
-use Rattle.lxr_rounds.proofs.EndedLemmas.{asks_right, comes, has_more, have_all_ended, not_told}
+use Rattle.lxr_rounds.proofs.EndedLemmas.{asks_right, comes, has_more, have_all_ended, not_told, traces_right}
 use Rattle.lxr_rounds.proofs.ServeLemmas.{begins_serving}
 
 -- what is found of actors after an epoch: whether all threads have ended, whether the pause shall collect, and what it is asked for
-pub record AreFound (actors : List AnyActor) (ended collects : Bool) (asked : Ask) : Type 0 where
+pub record AreFound (actors : List AnyActor) (ended collects begins : Bool) (asked : Ask) : Type 0 where
   pub means : IsTrue ended ↔ All NoneGoesOn actors
   pub shall : collects ≡ (ended || list_any actor_collected actors)
-  pub is : asked ≡ asked_by collects
+  pub is : asked ≡ asked_by collects begins
 
 -- so it is where each was found of what these actors are
-pub found : (actors first second : List AnyActor) (ended collects : Bool) (asked : Ask) → first ≡ actors → second ≡ actors → IsTrue ended ↔ All NoneGoesOn first → collects ≡ (ended || list_any actor_collected second) → asked ≡ asked_by collects
-    → AreFound actors ended collects asked
-found actors first second ended collects asked same same' means shall is = record {
+pub found : (actors first second : List AnyActor) (ended collects begins : Bool) (asked : Ask) → first ≡ actors → second ≡ actors → IsTrue ended ↔ All NoneGoesOn first → collects ≡ (ended || list_any actor_collected second) → asked ≡ asked_by collects begins
+    → AreFound actors ended collects begins asked
+found actors first second ended collects begins asked same same' means shall is = record {
   means = subst (λ xs. IsTrue ended ↔ All NoneGoesOn xs) same means;
   shall = subst (λ xs. collects ≡ (ended || list_any actor_collected xs)) same' shall;
   is = is;
@@ -48,14 +48,18 @@ found actors first second ended collects asked same same' means shall is = recor
 -- of a run that has made an epoch, with what is found of its actors
 module _ (task : Task) (pace : Pace) (paced : pace_of task.plan ≡ pace) (after : Space) (seen : Option (List Sight)) (earlier actors : List AnyActor) (h : List Item) (g : AbstractState)
     (ran : HasRunEpoch task after seen earlier actors h g)
-    (ended collects : Bool) (asked : Ask) (are : AreFound actors ended collects asked) where
+    (ended collects begins : Bool) (asked : Ask) (are : AreFound actors ended collects (begins && nat_eq pace.trace 0) asked) where
+  -- what it is asked for, by the plan
+  asked_is : asked ≡ asked_for task begins collects
+  asked_is = are.is ∙ ap (λ (p : Pace). asked_by collects (begins && nat_eq p.trace 0)) (sym paced)
+
   -- its pause is asked right
   right : (asked ≡ ask.Collect) ↔ MustCollect (terms_of task) h
-  right = asks_right task after seen earlier actors h g ended collects asked ran are.means are.shall are.is
+  right = asks_right task after seen earlier actors h g ended collects (begins && nat_eq pace.trace 0) asked ran are.means are.shall are.is
 
   -- it is due
   pub pause_due : HasComeToPause asked pace task after seen h g
-  pause_due = comes task after seen earlier actors h g pace asked paced ran right
+  pause_due = comes task after seen earlier actors h g pace asked paced ran (record { collects = right; traces = traces_right task begins collects asked asked_is })
 
   -- numbers have room for it
   pub pause_fits : FitsCounts after
@@ -98,7 +102,7 @@ module _ (task : Task) (pace : Pace) (paced : pace_of task.plan ≡ pace) (after
         }
 
     -- so the epoch is followed by it
-    abbrev followed : (collected : Bool) → asked ≡ asked_by collected → IsFollowedByPause task collected h after then seen'
+    abbrev followed : (collected : Bool) → asked ≡ asked_for task begins collected → IsFollowedByPause task begins collected h after then seen'
     followed collected by = record {
       right = subst (λ a. (a ≡ ask.Collect) ↔ MustCollect (terms_of task) h) by right;
       report = report;
@@ -108,12 +112,12 @@ module _ (task : Task) (pace : Pace) (paced : pace_of task.plan ≡ pace) (after
     }
 
     -- where all have ended, it is the last
-    pub all_done : (told : List Item → List Item → Type 0) → told h (Pause report ∷ h) → ended ≡ true → IsLast told task after then seen' actors actors h
+    pub all_done : (told : List Item → List Item → Type 0) → told h (Pause report ∷ h) → ended ≡ true → IsLast begins told task after then seen' actors actors h
     all_done told tells e =
         let collecting : collects ≡ true = are.shall ∙ ap (λ b. b || list_any actor_collected actors) e in
         record {
           ended = have_all_ended task h actors ran.actors_rest (are.means.0 e);
-          pause = followed true (are.is ∙ ap asked_by collecting);
+          pause = followed true (asked_is ∙ ap (asked_for task begins) collecting);
           same = refl;
           ran = run_to task after then seen seen' earlier actors h g g' asked report ran (have_all_ended task h actors ran.actors_rest (are.means.0 e)) paused;
           tells = tells;
@@ -121,19 +125,19 @@ module _ (task : Task) (pace : Pace) (paced : pace_of task.plan ≡ pace) (after
 
     -- else serving begins behind it
     pub begun : ended ≡ false → BeginsServing task then seen' collects (mutators_in actors) (Pause report ∷ h) g'
-    begun e = begins_serving task then seen' (mutators_in actors) h asked collects report g' ran.actors_rest.mutators ran.news (has_more actors (not_told ended are.means e)) are.is right paused
+    begun e = begins_serving task then seen' (mutators_in actors) h asked collects (begins && nat_eq pace.trace 0) report g' ran.actors_rest.mutators ran.news (has_more actors (not_told ended are.means e)) are.is right paused
 
     -- and once all are answered, and lists are made anew, the rounds are between epochs again
     pub goes_on : (e : ended ≡ false) → then.pauses ≡ after.pauses + 1 → (full again : Space) (seen'' : Option (List Sight)) (answered : List AnyActor) (collected served : Bool) (k : List Item) (g'' : AbstractState)
         → IsServing task full seen'' (mutators_in actors) then.pauses collected (mutators_in answered) (length (mutators_in answered)) served k g''
         → AnswersWaiting pace collects (mutators_in actors) then (Pause report ∷ h) (mutators_in answered) full k → KeepsHelpers actors answered → ListsAnew full again g''
-        → (lists_so : Space → Space → Type 0) → lists_so full again → (told : List Item → List Item → Type 0) → told h k → IsNextDue lists_so told task after again seen'' earlier actors answered h
+        → (lists_so : Space → Space → Type 0) → lists_so full again → (told : List Item → List Item → Type 0) → told h k → IsNextDue begins lists_so told task after again seen'' earlier actors answered h
     goes_on e one full again seen'' answered collected served k g'' serving answers keeps lists lists_so listed_so told tells = record {
       collects = collects;
       paused = then;
       sighted = seen';
-      pause = followed collects are.is;
-      begins = begun e;
+      pause = followed collects asked_is;
+      serves = begun e;
       answered = full;
       history = k;
       abstract_state = g'';

@@ -33,17 +33,18 @@ use Rattle.lxr_rounds.proofs.EndedLemmas.{left_no_more}
 -- ---- the beginning
 
 -- a pause is asked to collect exactly where it shall
-asked_by_it : (collected : Bool) → (asked_by collected ≡ ask.Collect) ↔ IsTrue collected
-asked_by_it true = (λ e. refl, λ e. refl)
-asked_by_it false = (λ e. absurd (cc), λ e. absurd (cc))
+asked_by_it : (collected tracing : Bool) → (asked_by collected tracing ≡ ask.Collect) ↔ IsTrue collected
+asked_by_it true tracing = (λ e. refl, λ e. refl)
+asked_by_it false true = (λ e. absurd (cc), λ e. absurd (cc))
+asked_by_it false false = (λ e. absurd (cc), λ e. absurd (cc))
 
 -- after the pause of an epoch serving begins
-pub begins_serving : (task : Task) (space : Space) (seen : Option (List Sight)) (mutators : List Mutating) (h : List Item) (asked : Ask) (collected : Bool) (report : PauseReport) (g : AbstractState)
-    → HaveMutators task h mutators → NewsWait mutators → HasMore mutators → asked ≡ asked_by collected → (asked ≡ ask.Collect) ↔ MustCollect (terms_of task) h → HasPaused task space seen h asked report g
+pub begins_serving : (task : Task) (space : Space) (seen : Option (List Sight)) (mutators : List Mutating) (h : List Item) (asked : Ask) (collected tracing : Bool) (report : PauseReport) (g : AbstractState)
+    → HaveMutators task h mutators → NewsWait mutators → HasMore mutators → asked ≡ asked_by collected tracing → (asked ≡ ask.Collect) ↔ MustCollect (terms_of task) h → HasPaused task space seen h asked report g
     → BeginsServing task space seen collected mutators (Pause report ∷ h) g
-begins_serving task space seen mutators h asked collected report g have news more by right paused = record {
-  serving = serving_begins task space seen mutators h asked collected report g have news more by right paused;
-  collected_is = (λ e. paused.collects.1 (by ∙ (asked_by_it collected).1 e), λ e. (asked_by_it collected).0 (sym by ∙ paused.collects.0 e));
+begins_serving task space seen mutators h asked collected tracing report g have news more by right paused = record {
+  serving = serving_begins task space seen mutators h asked collected tracing report g have news more by right paused;
+  collected_is = (λ e. paused.collects.1 (by ∙ (asked_by_it collected tracing).1 e), λ e. (asked_by_it collected tracing).0 (sym by ∙ paused.collects.0 e));
 }
 
 -- ---- one call

@@ -1,5 +1,5 @@
 //! What follows an epoch, until the next one may begin.
-ghost use Rattle.std.specs.Prelude.{◌≡◌, ◌↔◌, ◌||◌, IfErr, IfOk, IsTrue, OnOk};
+ghost use Rattle.std.specs.Prelude.{◌≡◌, ◌↔◌, ◌&&◌, ◌||◌, IfErr, IfOk, IsTrue, OnOk, nat_eq};
 ghost use Rattle.std.specs.List.{All, list_any};
 ghost use Rattle.lxr_one_pause.specs.Deciding.{IsPace};
 ghost use Rattle.lxr_one_pause.specs.Telling.{TellsWanted};
@@ -60,18 +60,21 @@ fn shall_collect(actors: &[AnyActor], ended: bool) -> bool
     ended || have_collected(actors)
 }
 
-/// What a pause is asked for, by whether it shall collect.
-fn ask_of(collects: bool) -> Ask
-    ensures { result ≡ asked_by collects }
+/// What a pause is asked for, by whether it shall collect, and whether it is wished for that it begins a trace, which the pace may leave free.
+fn ask_of(pace: Pace, collects: bool, begins: bool) -> Ask
+    ensures { result ≡ asked_by collects (begins && nat_eq pace.trace 0) }
 {
     if collects {
         Ask::Collect
+    } else if begins && pace.trace == 0 {
+        Ask::Trace
     } else {
         Ask::Ordinary
     }
 }
 
 /// Makes the pause after an epoch, at which the watch looks right before and right after it, and of whose report the observer is told.
+/// Where that is wished for, the pace leaves it free, and no trace runs, it begins one, unless it shall collect.
 /// Where not all threads have ended, waiting `new`s are served or refused, with more pauses where they need room, and free lines and
 /// blocks are listed for the next epoch: of the runs those that are to be listed, which goes on to those of the listing after it. The last
 /// report lists counts where the observer wants them, and else none. Whether all have. It takes no memory, and fails where the observer does.
@@ -79,6 +82,7 @@ pub fn follow_epoch<W: Watch, S, O: Observer<S>>(
     space: &mut Space,
     actors: &mut Vec<AnyActor>,
     pace: Pace,
+    begins: bool,
     to_list: &mut ToList,
     watch: &mut W,
     observer: &mut O,
@@ -87,7 +91,7 @@ pub fn follow_epoch<W: Watch, S, O: Observer<S>>(
     requires pace { IsPace pace }
     requires ran { SomeHasRunEpoch pace space.old (W.seen watch.old) actors.old.items }
     requires room { O.has_room observer.old space.old.pauses }
-    ensures ok { IfOk result (λ ended. FollowsEach (λ before after. Lists to_list.old before after to_list.new) (λ h h'. Tells O.began O.served O.told observer.old output.old h observer.new output.new h') pace space.old (W.seen watch.old) actors.old.items space.new (W.seen watch.new) actors.new.items ended) }
+    ensures ok { IfOk result (λ ended. FollowsEach begins (λ before after. Lists to_list.old before after to_list.new) (λ h h'. Tells O.began O.served O.told observer.old output.old h observer.new output.new h') pace space.old (W.seen watch.old) actors.old.items space.new (W.seen watch.new) actors.new.items ended) }
     ensures kept { IfOk result (λ ended. IsTrue ended → to_list.new ≡ to_list.old) }
     ensures stays { IfErr result (λ why. to_list.new ≡ to_list.old) }
     ensures room { OnOk result (O.has_room observer.new space.new.pauses) }
@@ -96,7 +100,7 @@ pub fn follow_epoch<W: Watch, S, O: Observer<S>>(
 {
     let ended = have_ended(actors);
     let collects = shall_collect(actors, ended);
-    let ask = ask_of(collects);
+    let ask = ask_of(pace, collects, begins);
     pause(space, ask, pace, watch, observer, output)?;
     if ended {
         return Ok(true);

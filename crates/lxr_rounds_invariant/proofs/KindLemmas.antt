@@ -1,7 +1,7 @@
 -- Which kind a pause of a run has: it collects exactly where it is asked to, and else traces begin and end as the plan asks.
 use Rattle.std.proofs.Common.{◌≡◌, ℕ, ◌+◌, ◌%◌, ◌<◌, ◌⊎◌, ◌↔◌, refl, sym, ap, subst, ◌∙◌, inl, inr, arith, Bool, true, false, ◌&&◌, ◌||◌, List, [], ◌∷◌, nat_eq}
-use Rattle.std.specs.Prelude.{Option, Some, None, nat_le, if◌then◌else◌}
-use Rattle.std.proofs.lemmas.Bool.{eq-eqb}
+use Rattle.std.specs.Prelude.{Option, Some, None, nat_le, not, if◌then◌else◌}
+use Rattle.std.proofs.lemmas.Bool.{eq-eqb, eqb-true}
 use Rattle.std.proofs.lemmas.Bool.Decides.{nat_tests}
 use Rattle.lxr_graph.specs.declared.Op.TheVariants as op
 use Rattle.lxr_graph.specs.declared.report.Kind.TheVariants as kind
@@ -38,44 +38,52 @@ unasked_uncalled (Call t o r ∷ h) unasked = unasked_uncalled h (λ u. behind (
 
 -- a pause that is asked to collect where all have ended or `collect` was called is asked to where it must
 pub asked_right : (terms : Terms) (h : List Item) (ended collected : Bool) → (ended ≡ true → ends h ≡ terms.threads) → (ended ≡ false → ends h < terms.threads) → collect_called h ≡ collected
-    → (asked_by (ended || collected) ≡ ask.Collect) ↔ MustCollect terms h
-asked_right terms h true collected all more is = (λ e. inr (all refl), λ must. refl)
-asked_right terms h false true all more is = (λ e. inl is, λ must. refl)
-asked_right terms h false false all more is = (λ e. absurd (cc), λ must. absurd (none must))
+    → (begins : Bool) → (asked_by (ended || collected) begins ≡ ask.Collect) ↔ MustCollect terms h
+asked_right terms h true collected all more is begins = (λ e. inr (all refl), λ must. refl)
+asked_right terms h false true all more is begins = (λ e. inl is, λ must. refl)
+asked_right terms h false false all more is begins = (λ e. absurd (uncollecting begins e), λ must. absurd (none must))
   where
+    uncollecting : (begins : Bool) → asked_by false begins ≡ ask.Collect → ⊥
+    uncollecting true e = cc
+    uncollecting false e = cc
+
     none : MustCollect terms h → ⊥
     none (inl called) = let both : true ≡ false = sym called ∙ is in cc
     none (inr ended) = let few = more refl in absurd (omega arith)
 
 -- none must where nobody has called `collect` and not all have ended
 pub must_not : (terms : Terms) (h : List Item) → collect_called h ≡ false → ends h < terms.threads → ¬ MustCollect terms h
-must_not terms h uncalled more must = let e = (asked_right terms h false false (λ e. absurd (cc)) (λ e. more) uncalled).1 must in cc
+must_not terms h uncalled more must = let e = (asked_right terms h false false (λ e. absurd (cc)) (λ e. more) uncalled false).1 must in cc
 
 -- ---- the kind
+
+-- one along a trace doesn't collect
+never_along : (began : ℕ) (b : Bool) → (if b then kind.End began else kind.Plain) ≡ kind.Collect → ⊥
+never_along began true e = cc
+never_along began false e = cc
 
 -- a pause collects exactly where it is asked to
 pub kind_collects : (asked : Ask) (pace : Pace) (k : ℕ) (o : Option Trace) (traced : Bool) → (kind_of asked pace k o traced ≡ kind.Collect) ↔ (asked ≡ ask.Collect)
 kind_collects ask.Collect pace k o traced = (λ e. refl, λ e. refl)
-kind_collects ask.Ordinary pace k None traced = (λ e. absurd (apart (nat_eq (k % pace.trace) 0) e), λ e. cc)
+kind_collects ask.Trace pace k None traced = (λ e. absurd (cc), λ e. cc)
+kind_collects ask.Trace pace k (Some t) traced = (λ e. absurd (never_along t.began (traced || nat_le (t.began + pace.within) k) e), λ e. cc)
+kind_collects ask.Ordinary pace k None traced = (λ e. absurd (apart (not (nat_eq pace.trace 0) && nat_eq (k % pace.trace) 0) e), λ e. cc)
   where
     apart : (b : Bool) → (if b then kind.Begin else kind.Plain) ≡ kind.Collect → ⊥
     apart true e = cc
     apart false e = cc
-kind_collects ask.Ordinary pace k (Some t) traced = (λ e. absurd (along (traced || nat_le (t.began + pace.within) k) e), λ e. cc)
-  where
-    along : (b : Bool) → (if b then kind.End t.began else kind.Plain) ≡ kind.Collect → ⊥
-    along true e = cc
-    along false e = cc
+kind_collects ask.Ordinary pace k (Some t) traced = (λ e. absurd (never_along t.began (traced || nat_le (t.began + pace.within) k) e), λ e. cc)
 
 module _ (terms : Terms) (h : List Item) (m : Moment) (k : ℕ) (pace : Pace) (traced : Bool) (trace : pace.trace ≡ terms.trace) (within : pace.within ≡ terms.within) where
   module _ (must_not : ¬ MustCollect terms h) where
-    -- where no trace runs
-    apart : m.trace ≡ None → (b : Bool) → nat_eq (k % pace.trace) 0 ≡ b → MayStand terms h m k (if b then kind.Begin else kind.Plain)
-    apart none true e = (must_not, none, let multiple : k % pace.trace ≡ 0 = grind (arith, nat_tests) in ap (λ n. k % n) (sym trace) ∙ multiple)
-    apart none false e = (
+    -- where no trace runs, and whether one begins goes by the number of the pause
+    apart : m.trace ≡ None → (free due : Bool) → nat_eq pace.trace 0 ≡ free → nat_eq (k % pace.trace) 0 ≡ due → MayStand terms h m k (if not free && due then kind.Begin else kind.Plain)
+    apart none true due is e = (must_not, subst (NeedsNoTrace terms k) (sym none) (inl (sym trace ∙ eqb-true pace.trace 0 is)))
+    apart none false true is e = (must_not, none, inr (ap (λ n. k % n) (sym trace) ∙ eqb-true (k % pace.trace) 0 e))
+    apart none false false is e = (
       must_not,
       subst (NeedsNoTrace terms k) (sym none)
-          (λ multiple. let same : k % pace.trace ≡ 0 = ap (λ n. k % n) trace ∙ multiple in let is : nat_eq (k % pace.trace) 0 ≡ true = eq-eqb (k % pace.trace) 0 same in absurd (let both : true ≡ false = sym is ∙ e in cc)),
+          (inr (λ multiple. let same : k % pace.trace ≡ 0 = ap (λ n. k % n) trace ∙ multiple in let is : nat_eq (k % pace.trace) 0 ≡ true = eq-eqb (k % pace.trace) 0 same in absurd (let both : true ≡ false = sym is ∙ e in cc))),
     )
 
     -- where one runs
@@ -87,12 +95,20 @@ module _ (terms : Terms) (h : List Item) (m : Moment) (k : ℕ) (pace : Pace) (t
     )
 
     ordinary : (o : Option Trace) → m.trace ≡ o → MayStand terms h m k (kind_of ask.Ordinary pace k o traced)
-    ordinary None none = apart none (nat_eq (k % pace.trace) 0) refl
+    ordinary None none = apart none (nat_eq pace.trace 0) (nat_eq (k % pace.trace) 0) refl refl
     ordinary (Some t) runs = along t runs (traced || nat_le (t.began + pace.within) k) refl
 
-  -- a pause of the kind that the rules decide may stand, if it is asked to collect exactly where it must, or for a `new` that waits
-  pub kind_may_stand : (asked : Ask) → ((asked ≡ ask.Collect) ↔ MustCollect terms h) ⊎ ((asked ≡ ask.Collect) × OnlyNewsSincePause h) → MayStand terms h m k (kind_of asked pace k m.trace traced)
-  kind_may_stand ask.Collect (inl right) = inl (right.0 refl)
+    -- where one is asked for, which is free
+    traces : terms.trace ≡ 0 → (o : Option Trace) → m.trace ≡ o → MayStand terms h m k (kind_of ask.Trace pace k o traced)
+    traces free None none = (must_not, none, inl free)
+    traces free (Some t) runs = along t runs (traced || nat_le (t.began + pace.within) k) refl
+
+  -- a pause of the kind that the rules decide may stand, if it is asked to collect exactly where it must, or for a `new` that waits, and to begin
+  -- a trace only where the terms leave that free
+  pub kind_may_stand : (asked : Ask) → (((asked ≡ ask.Collect) ↔ MustCollect terms h) × (asked ≡ ask.Trace → terms.trace ≡ 0)) ⊎ ((asked ≡ ask.Collect) × OnlyNewsSincePause h) → MayStand terms h m k (kind_of asked pace k m.trace traced)
+  kind_may_stand ask.Collect (inl right) = inl (right.0.0 refl)
   kind_may_stand ask.Collect (inr waits) = inr waits.1
-  kind_may_stand ask.Ordinary (inl right) = ordinary (λ must. let e = right.1 must in cc) m.trace refl
+  kind_may_stand ask.Trace (inl right) = traces (λ must. let e = right.0.1 must in cc) (right.1 refl) m.trace refl
+  kind_may_stand ask.Trace (inr waits) = absurd (let e = waits.0 in cc)
+  kind_may_stand ask.Ordinary (inl right) = ordinary (λ must. let e = right.0.1 must in cc) m.trace refl
   kind_may_stand ask.Ordinary (inr waits) = absurd (let e = waits.0 in cc)

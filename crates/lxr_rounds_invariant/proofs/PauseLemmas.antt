@@ -9,7 +9,7 @@ use Rattle.lxr_graph.specs.History.{Item, Pause, PauseReport, report_of}
 use Rattle.lxr_graph.specs.Names.{has}
 use Rattle.lxr_image.specs.declared.space.Space.{Space}
 use Rattle.lxr_image.specs.declared.space.Tally.{Tally}
-use Rattle.lxr_model.specs.Kinds.{MayStand}
+use Rattle.lxr_model.specs.Kinds.{MayStand, MustCollect, OnlyNewsSincePause}
 use Rattle.lxr_model.specs.Legal.{IsLegalSoFar, IsPause}
 use Rattle.lxr_model.specs.Terms.{Terms}
 use Rattle.lxr_model.specs.Moments.{Moment, Trace, after_pause, moment}
@@ -134,12 +134,19 @@ module _ (task : Task) (before after : Space) (seen amid seen' : Option (List Si
   abbrev abstract_state : AbstractState
   abstract_state = paused g at' report
 
+  -- it is asked to collect exactly where it must, and to begin a trace only where that is free, or else for a `new` that waits
+  right_by_parts : (((asked ≡ ask.Collect) ↔ MustCollect (terms_of task) h) × (asked ≡ ask.Trace → task.plan.trace ≡ 0)) ⊎ ((asked ≡ ask.Collect) × OnlyNewsSincePause h)
+  right_by_parts = elim right [
+    | inl due ↦ inl (due.collects, due.traces)
+    | inr waits ↦ inr waits
+  ]
+
   -- its kind may stand
   stands_so : MayStand (terms_of task) h g.moment report.number report.kind
   stands_so =
       subst (λ k. MayStand (terms_of task) h g.moment report.number k) (sym pauses.kind.kind)
       (subst (λ n. MayStand (terms_of task) h g.moment n (kind_of asked (pace_of task.plan) (g.moment.number + 1) g.moment.trace pauses.kind.traced)) (sym pauses.reports.1.number)
-      (kind_may_stand (terms_of task) h g.moment (g.moment.number + 1) (pace_of task.plan) pauses.kind.traced refl refl asked right))
+      (kind_may_stand (terms_of task) h g.moment (g.moment.number + 1) (pace_of task.plan) pauses.kind.traced refl refl asked right_by_parts))
 
   -- it collects exactly where it is asked to
   collects : (report.kind ≡ kind.Collect) ↔ (asked ≡ ask.Collect)

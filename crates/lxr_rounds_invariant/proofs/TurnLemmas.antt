@@ -57,10 +57,10 @@ collected_since t o h (dest, shape, is) since = subst (λ x. IsCollectedSince (C
 -- ---- the beginning
 
 -- after the pause of an epoch no `new` is answered yet, and none is owed its call
-pub serving_begins : (task : Task) (space : Space) (seen : Option (List Sight)) (mutators : List Mutating) (h : List Item) (asked : Ask) (collected : Bool) (report : PauseReport) (g : AbstractState)
-    → HaveMutators task h mutators → NewsWait mutators → HasMore mutators → asked ≡ asked_by collected → (asked ≡ ask.Collect) ↔ MustCollect (terms_of task) h → HasPaused task space seen h asked report g
+pub serving_begins : (task : Task) (space : Space) (seen : Option (List Sight)) (mutators : List Mutating) (h : List Item) (asked : Ask) (collected begins : Bool) (report : PauseReport) (g : AbstractState)
+    → HaveMutators task h mutators → NewsWait mutators → HasMore mutators → asked ≡ asked_by collected begins → (asked ≡ ask.Collect) ↔ MustCollect (terms_of task) h → HasPaused task space seen h asked report g
     → IsServing task space seen mutators space.pauses collected mutators 0 false (Pause report ∷ h) g
-serving_begins task space seen mutators h asked collected report g have news more by right paused = record {
+serving_begins task space seen mutators h asked collected begins report g have news more by right paused = record {
   come = paused.come;
   between = paused.between;
   mutators_rest = mutators_paused task h report mutators have;
@@ -70,7 +70,7 @@ serving_begins task space seen mutators h asked collected report g have news mor
   none_yet = λ t past. refl;
   unasked = λ t. refl;
   only_news = tt;
-  unserved = λ none collects. paused.collects.1 (by ∙ ap asked_by collects);
+  unserved = λ none collects. paused.collects.1 (by ∙ ap (λ c. asked_by c begins) collects);
   more = more;
   owes = inl (record { none = λ waiting. waiting.1 (right.0 (paused.collects.0 waiting.0)); few = omega arith });
   asked = refl;

@@ -141,14 +141,18 @@ pub record IsPauseDue (task : Task) (h : List Item) : Type 0 where
   pub early : LastPauseWasEarly (terms_of task) h
   pub owes_none : OwesNoCall (terms_of task) h
 
--- what a pause is asked for, by whether it shall collect
-abbrev pub asked_by : Bool → Ask
-asked_by collects = if collects then ask.Collect else ask.Ordinary
+-- what a pause is asked for, by whether it shall collect, and whether it is to begin a trace where none runs
+abbrev pub asked_by : Bool → Bool → Ask
+asked_by collects begins = if collects then ask.Collect else (if begins then ask.Trace else ask.Ordinary)
 
--- A pause after h is asked to collect exactly where it must; or it is asked to for a `new` that waits, where nothing but calls of `new`
--- stands after the last pause.
+-- a pause after h is asked to collect exactly where it must, and to begin a trace only where the plan leaves that free
+pub record IsAskedWhereDue (task : Task) (h : List Item) (asked : Ask) : Type 0 where
+  pub collects : (asked ≡ ask.Collect) ↔ MustCollect (terms_of task) h
+  pub traces : asked ≡ ask.Trace → task.plan.trace ≡ 0
+
+-- So it is asked; or it is asked to collect for a `new` that waits, where nothing but calls of `new` stands after the last pause.
 abbrev pub IsAskedRight : Task → List Item → Ask → Type 0
-IsAskedRight task h asked = ((asked ≡ ask.Collect) ↔ MustCollect (terms_of task) h) ⊎ ((asked ≡ ask.Collect) × OnlyNewsSincePause h)
+IsAskedRight task h asked = IsAskedWhereDue task h asked ⊎ ((asked ≡ ask.Collect) × OnlyNewsSincePause h)
 
 -- An epoch has run from `before`, and a pause is due.
 pub record HasRunEpoch (task : Task) (space : Space) (seen : Option (List Sight)) (before actors : List AnyActor) (h : List Item) (g : AbstractState) : Type 0 where

@@ -126,7 +126,7 @@ waiting_unrenewed pace collected mutators space h mutators' space' h' (collects 
 
 pub drawn_unrenewed : (task : RunTask) (h : List Item) (x : Option ℕ) (space : Space) (actors : List AnyActor) → IsDrawn task h x space actors → IsUnrenewed h
 drawn_unrenewed task h x space actors (at_opening s a opened made) = tt
-drawn_unrenewed task h x space actors (by_epoch k l y y' s closed paused a a' asked drawn makes right behind) =
+drawn_unrenewed task h x space actors (by_epoch k l y y' s closed paused a a' asked drawn makes right untraced behind) =
     subst IsUnrenewed (sym makes.history) (extends_unrenewed _ _ k _ makes.closes.extends (drawn_unrenewed task k y s a drawn))
 drawn_unrenewed task h x space actors (by_answers k l y g collected s s' a a' seen drawn begun answers keeps) =
     waiting_unrenewed (pace_of (rounds_of task).plan) collected (mutators_in a) s k (mutators_in a') s' l answers (drawn_unrenewed task k y s a drawn)

@@ -8,6 +8,7 @@ use Rattle.lxr_core.specs.declared.actors.AnyActor.{AnyActor}
 use Rattle.lxr_core.specs.Actors.{mutators_in}
 use Rattle.lxr_core.proofs.ScriptLemmas.{full_as}
 use Rattle.lxr_sights.specs.Sights.{Sight}
+use Rattle.lxr_one_pause.specs.declared.Ask.TheVariants as ask
 use Rattle.lxr_rounds_invariant.specs.LoopInvariant.{asked_by}
 use Rattle.lxr_rounds_invariant.proofs.ActorLemmas.{left_less}
 use Rattle.lxr_run_history.specs.Left.{TellsByOptions}
@@ -31,7 +32,7 @@ use Rattle.lxr_rounds.proofs.EndedLemmas.{left_no_more}
 
 -- what follows an epoch was told
 pub told_behind : (lists_so : Space → Space → Type 0) (told : List Item → List Item → Type 0) (ended : Bool) (task : rounds.Task) (before after : Space) (seen : Option (List Sight)) (earlier actors actors' : List AnyActor) (h : List Item)
-    → HasFollowed ended lists_so told task before after seen earlier actors actors' h → (k : List Item) × told h k
+    → HasFollowed ended false lists_so told task before after seen earlier actors actors' h → (k : List Item) × told h k
 told_behind lists_so told true task before after seen earlier actors actors' h last = (Pause last.pause.report ∷ h, last.tells)
 told_behind lists_so told false task before after seen earlier actors actors' h next = (next.history, next.tells)
 
@@ -59,19 +60,24 @@ was_cut_off written faults task o w w' h why space seen cut stands told =
 
 -- ---- a round
 
+-- where no trace is wished for none is asked for
+untraced : (collects : Bool) → ¬ (asked_by collects false ≡ ask.Trace)
+untraced true e = cc
+untraced false e = cc
+
 -- of a run that has made an epoch
 module _ (task : RunTask) (space after : Space) (written : Option (List ℕ)) (seen : Option (List Sight)) (before actors : List AnyActor) (h : List Item) (g : AbstractState)
     (x x' : Option ℕ) (amid : IsBetweenRounds task space written seen before h g) (drawn : IsDrawn task h x space before) (made : HasMadeEpoch task space after written seen before actors h x x') where
   -- with the pause behind it the history is drawn
-  drawn_on : (collects : Bool) (then : Space) (seen' : Option (List Sight)) (pause : IsFollowedByPause (rounds_of task) collects made.history after then seen') → IsDrawn task (Pause pause.report ∷ made.history) x' then actors
+  drawn_on : (collects : Bool) (then : Space) (seen' : Option (List Sight)) (pause : IsFollowedByPause (rounds_of task) false collects made.history after then seen') → IsDrawn task (Pause pause.report ∷ made.history) x' then actors
   drawn_on collects then seen' pause =
       let report_is : report_of then.report ≡ pause.report = pause.paused.come.safepoint.numbers.report ∙ pause.paused.come.stands.reported in
-      subst (λ r. IsDrawn task (Pause r ∷ made.history) x' then actors) report_is (by_epoch h made.history x x' space after then before actors (asked_by collects) drawn made.makes pause.right pause.behind)
+      subst (λ r. IsDrawn task (Pause r ∷ made.history) x' then actors) report_is (by_epoch h made.history x x' space after then before actors (asked_by collects false) drawn made.makes pause.right (untraced collects) pause.behind)
 
   -- By what has followed it the round is made. What was told of the histories before and behind that has a teller that stood behind the one stand behind
   -- the other.
   pub round : (lists_so : Space → Space → Type 0) → ((before after : Space) → lists_so before after → ListsAll before after) → (told : List Item → List Item → Type 0) (ended : Bool) (again : Space) (written' : Option (List ℕ)) (seen' : Option (List Sight)) (actors' : List AnyActor) (teller teller' : Teller)
-      → HasFollowed ended lists_so told (rounds_of task) after again seen' before actors actors' made.history → StandsBehind task teller written made.history
+      → HasFollowed ended false lists_so told (rounds_of task) after again seen' before actors actors' made.history → StandsBehind task teller written made.history
       → ((k : List Item) → told made.history k → StandsBehind task teller written made.history → StandsBehind task teller' written' k) → AreFew teller'.totals again.pauses → TellsByOptions task.options again
       → HasMadeRound task again written' seen' before actors' (record { generator = x'; totals = teller'.totals; order = teller'.order }) ended
   round lists_so all told true again written' seen' actors' teller teller' last stands follows few listed =
@@ -89,7 +95,7 @@ module _ (task : RunTask) (space after : Space) (written : Option (List ℕ)) (s
           record { epochs = next.again.amid; threads = amid.threads; text = stands'.text; full = full_as (mutators_in actors') (mutators_in actors) next.asked made.full },
           by_listing next.history x' next.answered again actors'
               (by_answers (Pause next.pause.report ∷ made.history) next.history x' next.pause.abstract_state next.collects next.paused next.answered actors actors' next.sighted
-              (drawn_on next.collects next.paused next.sighted next.pause) next.begins next.answers next.keeps)
+              (drawn_on next.collects next.paused next.sighted next.pause) next.serves next.answers next.keeps)
               (all next.answered again next.lists),
           record { are = stands'.totals; few = few; order = stands'.order },
         );

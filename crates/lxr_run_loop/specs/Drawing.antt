@@ -82,14 +82,14 @@ pub record MakesEpoch (task : RunTask) (space : Space) (actors : List AnyActor) 
 
 -- The history of a run, whose generator begins with the number that the options give, if they give one, and goes on from epoch to epoch:
 -- behind this history it has come to x, and the run to this space and these actors. It begins with an opened space and actors as they are
--- made. One pause stands after each epoch, which collects exactly where it must; what waits is answered behind it, with more pauses where
+-- made. One pause stands after each epoch, which collects exactly where it must, and is never asked for a trace; what waits is answered behind it, with more pauses where
 -- room is wanted; then runs and free blocks are listed for the next epoch. Epochs alone draw from the generator, and what one of these
 -- steps leaves is what the next one begins with.
 pub data IsDrawn (task : RunTask) : List Item → Option ℕ → Space → List AnyActor → Type 0 where
   at_opening : (space : Space) (actors : List AnyActor) → IsOpened space (task_limits (rounds_of task)) → AreMade (task_limits (rounds_of task)) task.options.every task.options.workers task.options.workers task.script actors
       → IsDrawn task [] task.options.replay space actors
   by_epoch : (h h' : List Item) (x x' : Option ℕ) (space closed paused : Space) (actors actors' : List AnyActor) (asked : Ask) → IsDrawn task h x space actors → MakesEpoch task space actors h x closed actors' h' x'
-      → (asked ≡ ask.Collect) ↔ MustCollect (terms_of (rounds_of task)) h' → PausesBehind (rounds_of task) asked h' closed paused → IsDrawn task (Pause (report_of paused.report) ∷ h') x' paused actors'
+      → (asked ≡ ask.Collect) ↔ MustCollect (terms_of (rounds_of task)) h' → ¬ (asked ≡ ask.Trace) → PausesBehind (rounds_of task) asked h' closed paused → IsDrawn task (Pause (report_of paused.report) ∷ h') x' paused actors'
   by_answers : (h h' : List Item) (x : Option ℕ) (g : AbstractState) (collected : Bool) (space space' : Space) (actors actors' : List AnyActor) (seen : Option (List Sight)) → IsDrawn task h x space actors
       → BeginsServing (rounds_of task) space seen collected (mutators_in actors) h g → AnswersWaiting (pace_of (rounds_of task).plan) collected (mutators_in actors) space h (mutators_in actors') space' h' → KeepsHelpers actors actors'
       → IsDrawn task h' x space' actors'

@@ -159,6 +159,7 @@ fn make_round<R: Threads + Wait + Sync, G: Gate, W: Watch, O: Sink>(
         space,
         actors,
         pace_of(options),
+        false,
         &mut to_list,
         watch,
         &mut teller,

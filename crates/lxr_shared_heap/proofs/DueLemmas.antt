@@ -102,7 +102,7 @@ end_tested (any.Tracer d ∷ actors) none = end_tested actors none
 pause_counts : (task : Task) (report : PauseReport) (calls : List Item) → IsLegalSoFar (terms_of task) (Pause report ∷ calls) → 0 < report.number
 pause_counts task report calls legal = let one = legal.2.reports.1.number in omega (arith, one)
 
-module _ (settings : Settings) (script : Script) (calls : List Item) (actors : List AnyActor) (space : Space) (actors' : List AnyActor) (rested : HasRested (run_of settings script) calls actors space actors' false) (waited : Bool)
+module _ (begins : Bool) (settings : Settings) (script : Script) (calls : List Item) (actors : List AnyActor) (space : Space) (actors' : List AnyActor) (rested : HasRested begins (run_of settings script) calls actors space actors' false) (waited : Bool)
     (waited_is : waited ≡ list_any waits actors) where
   abbrev amid : IsBetweenEpochs (run_of settings script) space None actors' rested.history rested.stands.0
   amid = rested.stands.1

@@ -308,10 +308,10 @@ is_false true n = absurd (cc)
 is_false false n = refl
 
 -- where nobody waited, nothing stands behind the pause
-pub idle_stands : (settings : Settings) (script : Script) (calls : List Item) (actors : List AnyActor) (space : Space) (actors' : List AnyActor) (rested : HasRested (run_of settings script) calls actors space actors' false) → HaveMutators (run_of settings script) calls (mutators_in actors)
+pub idle_stands : (begins : Bool) (settings : Settings) (script : Script) (calls : List Item) (actors : List AnyActor) (space : Space) (actors' : List AnyActor) (rested : HasRested begins (run_of settings script) calls actors space actors' false) → HaveMutators (run_of settings script) calls (mutators_in actors)
     → AreLive (mutators_in actors) → (b : Bool)
     → b ≡ list_any waits actors → StandsIdle settings script space actors' rested.history rested.stands.0 (not b)
-idle_stands settings script calls actors space actors' rested have live b is = record {
+idle_stands begins settings script calls actors space actors' rested have live b is = record {
   between = rested.stands.1;
   live = live_as (mutators_in actors) (mutators_in actors') rested.asked
       (λ i m x at later. (rested.stands.1.actors_rest.mutators.rest.each i x later).thread ∙ sym (have.rest.each i m at).thread) live;
@@ -330,11 +330,11 @@ newest_behind task report calls mutators space actors h g (inr behind) amid newe
     answers_newest (pace_of task.plan) behind.collected mutators (mutators_in actors) behind.paused behind.answered (Pause report ∷ calls) h behind.answers newest
 
 -- and once the pause is made behind it, the heap stands for what that has led to
-pub has_paused : (handed : List (Option Arrival)) (settings : Settings) (l l' : ToList) (script : Script) (h : List Item) (live : Lived) (now : Stage) (of : IsHeapOf script h (record { settings = settings; stage = stage.Within live; to_list = l })) (space : Space) (actors : List AnyActor)
+pub has_paused : (begins : Bool) (handed : List (Option Arrival)) (settings : Settings) (l l' : ToList) (script : Script) (h : List Item) (live : Lived) (now : Stage) (of : IsHeapOf script h (record { settings = settings; stage = stage.Within live; to_list = l })) (space : Space) (actors : List AnyActor)
     → RunsOn settings script h live.epoch of.stands handed space actors
-    → ((script : Script) (earlier : List AnyActor) (calls : List Item) (g : AbstractState) → HasRunEpoch (run_of settings script) space None earlier actors calls g → EndByNewest calls (mutators_in actors) → ComesToRest settings script calls (mutators_in actors) now)
-    → HasListed l now l' → HasPaused script h (record { settings = settings; stage = stage.Within live; to_list = l }) of (record { settings = settings; stage = now; to_list = l' })
-has_paused handed settings l l' script h live now of space actors on comes lists =
+    → ((script : Script) (earlier : List AnyActor) (calls : List Item) (g : AbstractState) → HasRunEpoch (run_of settings script) space None earlier actors calls g → EndByNewest calls (mutators_in actors) → ComesToRest begins settings script calls (mutators_in actors) now)
+    → HasListed l now l' → HasPaused begins script h (record { settings = settings; stage = stage.Within live; to_list = l }) of (record { settings = settings; stage = now; to_list = l' })
+has_paused begins handed settings l l' script h live now of space actors on comes lists =
     let rest = comes on.script' on.before on.calls on.abstract_state on.ran on.newest in record {
       script' = on.script';
       goes_on = on.goes_on;
@@ -354,28 +354,28 @@ has_paused handed settings l l' script h live now of space actors on comes lists
     }
 
 -- so it is with mutators that were handed in
-pub has_paused_with : (handed : List (Option Arrival)) (settings : Settings) (l l' : ToList) (script : Script) (h : List Item) (live : Lived) (now : Stage) (of : IsHeapOf script h (record { settings = settings; stage = stage.Within live; to_list = l })) (space : Space) (actors : List AnyActor)
+pub has_paused_with : (begins : Bool) (handed : List (Option Arrival)) (settings : Settings) (l l' : ToList) (script : Script) (h : List Item) (live : Lived) (now : Stage) (of : IsHeapOf script h (record { settings = settings; stage = stage.Within live; to_list = l })) (space : Space) (actors : List AnyActor)
     → RunsOn settings script h live.epoch of.stands handed space actors
-    → ((script : Script) (earlier : List AnyActor) (calls : List Item) (g : AbstractState) → HasRunEpoch (run_of settings script) space None earlier actors calls g → EndByNewest calls (mutators_in actors) → ComesToRest settings script calls (mutators_in actors) now)
-    → HasListed l now l' → AreAsHandedIn handed (mutators_in actors) → HasPausedWith handed script h (record { settings = settings; stage = stage.Within live; to_list = l }) of (record { settings = settings; stage = now; to_list = l' })
+    → ((script : Script) (earlier : List AnyActor) (calls : List Item) (g : AbstractState) → HasRunEpoch (run_of settings script) space None earlier actors calls g → EndByNewest calls (mutators_in actors) → ComesToRest begins settings script calls (mutators_in actors) now)
+    → HasListed l now l' → AreAsHandedIn handed (mutators_in actors) → HasPausedWith begins handed script h (record { settings = settings; stage = stage.Within live; to_list = l }) of (record { settings = settings; stage = now; to_list = l' })
 unfolding has_paused
-has_paused_with handed settings l l' script h live now of space actors on comes lists same = record {
-  made = has_paused handed settings l l' script h live now of space actors on comes lists;
+has_paused_with begins handed settings l l' script h live now of space actors on comes lists same = record {
+  made = has_paused begins handed settings l l' script h live now of space actors on comes lists;
   as_handed_in = same;
   seen = on.seen;
   begun = on.begun;
-  begins = on.begins;
+  told_by = on.begins;
 }
 
 -- whatever comes of the wish for a pause, some history is the heap's
-pub paused_some : (p : Paused) (before after : Heaped) → Pauses p before after → (script : Script) (h : List Item) → IsHeapOf script h before → (script' : Script) × (h' : List Item) × IsHeapOf script' h' after
-paused_some paused.Made before after is script h of = let made = is.1 script h of in (made.rest.renewed_script, made.rest.renewed_history, made.holds)
-paused_some paused.NotWanted before after is script h of = (script, h, subst (IsHeapOf script h) (sym is.1) of)
-paused_some (paused.Away number) before after is script h of = (script, h, subst (IsHeapOf script h) (sym is.2) of)
-paused_some paused.Shared before after is script h of = (script, h, subst (IsHeapOf script h) (sym is.1) of)
-paused_some paused.NotRunning before after is script h of = (script, h, subst (IsHeapOf script h) (sym is.1) of)
-paused_some paused.Ended before after is script h of = (script, h, subst (IsHeapOf script h) (sym is.1) of)
-paused_some paused.Lost before after is script h of = (script, h, subst (IsHeapOf script h) (sym is.1) of)
+pub paused_some : (begins : Bool) (p : Paused) (before after : Heaped) → Pauses begins p before after → (script : Script) (h : List Item) → IsHeapOf script h before → (script' : Script) × (h' : List Item) × IsHeapOf script' h' after
+paused_some begins paused.Made before after is script h of = let made = is.1 script h of in (made.rest.renewed_script, made.rest.renewed_history, made.holds)
+paused_some begins paused.NotWanted before after is script h of = (script, h, subst (IsHeapOf script h) (sym is.1) of)
+paused_some begins (paused.Away number) before after is script h of = (script, h, subst (IsHeapOf script h) (sym is.2) of)
+paused_some begins paused.Shared before after is script h of = (script, h, subst (IsHeapOf script h) (sym is.1) of)
+paused_some begins paused.NotRunning before after is script h of = (script, h, subst (IsHeapOf script h) (sym is.1) of)
+paused_some begins paused.Ended before after is script h of = (script, h, subst (IsHeapOf script h) (sym is.1) of)
+paused_some begins paused.Lost before after is script h of = (script, h, subst (IsHeapOf script h) (sym is.1) of)
 
 -- a heap has as many actors as its settings say, while an epoch is open
 pub actors_many : (settings : Settings) (l : ToList) (script : Script) (h : List Item) (live : Lived) → IsHeapOf script h (record { settings = settings; stage = stage.Within live; to_list = l }) → length live.epoch.opening.actors ≡ actors_of settings
@@ -390,21 +390,21 @@ actors_many settings l script h live of =
     ap (λ (k : Core AnyActor). length k.actors) (sym open_epoch.running.core) ∙ (omega arith)
 
 -- where an epoch is not closed, nothing has changed
-pub not_closed : (settings : Settings) (l : ToList) (live : Lived) (handed : List (Option Arrival)) (reason : NotClosed) → length live.epoch.opening.actors ≡ actors_of settings → IsUnclosed (length live.epoch.opening.actors) 0 handed reason
-    → (reason ≡ why.NotWanted → ¬ HaveEndedFrom (length live.epoch.opening.actors) 0 handed) → (reason ≡ why.Shared → IsWantedByAll (housed_in live) 0 handed []) → PausesWith handed (paused_for reason) (record { settings = settings; stage = stage.Within live; to_list = l }) (record { settings = settings; stage = stage.Within live; to_list = l })
-not_closed settings l live handed (why.Away number) many (from, less, none) unended wanted = ((tt, subst (λ n. number < n) many less, refl), none)
-not_closed settings l live handed why.NotWanted many none unended wanted = ((tt, refl), (λ number s at. none number s (omega arith) at), subst (λ n. ¬ HaveEndedFrom n 0 handed) many (unended refl))
-not_closed settings l live handed why.Shared many is unended wanted = ((tt, refl), wanted refl)
+pub not_closed : (begins : Bool) (settings : Settings) (l : ToList) (live : Lived) (handed : List (Option Arrival)) (reason : NotClosed) → length live.epoch.opening.actors ≡ actors_of settings → IsUnclosed (length live.epoch.opening.actors) 0 handed reason
+    → (reason ≡ why.NotWanted → ¬ HaveEndedFrom (length live.epoch.opening.actors) 0 handed) → (reason ≡ why.Shared → IsWantedByAll (housed_in live) 0 handed []) → PausesWith begins handed (paused_for reason) (record { settings = settings; stage = stage.Within live; to_list = l }) (record { settings = settings; stage = stage.Within live; to_list = l })
+not_closed begins settings l live handed (why.Away number) many (from, less, none) unended wanted = ((tt, subst (λ n. number < n) many less, refl), none)
+not_closed begins settings l live handed why.NotWanted many none unended wanted = ((tt, refl), (λ number s at. none number s (omega arith) at), subst (λ n. ¬ HaveEndedFrom n 0 handed) many (unended refl))
+not_closed begins settings l live handed why.Shared many is unended wanted = ((tt, refl), wanted refl)
 
 -- the wish for a pause with stations that are handed in is one for a pause
-pub pauses_alone : (handed : List (Option Arrival)) (p : Paused) (before after : Heaped) → PausesWith handed p before after → Pauses p before after
-pauses_alone handed paused.Made before after is = (is.0, λ script h of. (is.1 script h of).made)
-pauses_alone handed paused.NotWanted before after is = is.0
-pauses_alone handed (paused.Away number) before after is = is.0
-pauses_alone handed paused.Shared before after is = is.0
-pauses_alone handed paused.NotRunning before after is = is
-pauses_alone handed paused.Ended before after is = is
-pauses_alone handed paused.Lost before after is = is
+pub pauses_alone : (begins : Bool) (handed : List (Option Arrival)) (p : Paused) (before after : Heaped) → PausesWith begins handed p before after → Pauses begins p before after
+pauses_alone begins handed paused.Made before after is = (is.0, λ script h of. (is.1 script h of).made)
+pauses_alone begins handed paused.NotWanted before after is = is.0
+pauses_alone begins handed (paused.Away number) before after is = is.0
+pauses_alone begins handed paused.Shared before after is = is.0
+pauses_alone begins handed paused.NotRunning before after is = is
+pauses_alone begins handed paused.Ended before after is = is
+pauses_alone begins handed paused.Lost before after is = is
 
 -- mutators that were handed in are those of the pause, since mutators come first among actors
 pub as_handed_in : (handed : List (Option Arrival)) (actors : List AnyActor) → AreInOrder actors → HoldGivenUp handed actors → AreAsHandedIn handed (mutators_in actors)

@@ -9,3 +9,4 @@ pub mod RenewingLemmas
 pub mod IdleLemmas
 pub mod DueLemmas
 pub mod AskedLemmas
+pub mod TrimmingLemmas

@@ -1,5 +1,5 @@
 -- A heap that threads share: what it stands for wherever it stands, and what its calls do.
-use Rattle.std.specs.Prelude.{◌≡◌, true, ◌↔◌, ◌⊎◌, ℕ, zero, suc, ◌+◌, ◌*◌, ◌<◌, ◌≤◌, ⊤, None, Option, Some, List, [], ◌∷◌, ◌++◌, drop, length, map, max, replicate, slice_get, take}
+use Rattle.std.specs.Prelude.{◌≡◌, Bool, true, ◌↔◌, ◌⊎◌, ℕ, zero, suc, ◌+◌, ◌*◌, ◌<◌, ◌≤◌, ⊤, None, Option, Some, List, [], ◌∷◌, ◌++◌, drop, length, map, max, replicate, slice_get, take}
 use Rattle.lxr_graph.specs.declared.report.Kind.TheVariants as kind
 use Rattle.lxr_layout.specs.declared.Name.{Name}
 use Rattle.lxr_graph.specs.declared.Op.{Op}
@@ -48,7 +48,7 @@ use Rattle.lxr_stations.specs.Arriving.{HasComeHome, IsHandedIn, Tells}
 use Rattle.lxr_stations.specs.Gathering.{HaveEndedFrom, IsWantedByAll}
 use Rattle.lxr_stations.specs.Living.{AreLive}
 use Rattle.lxr_shared_heap.specs.Renewing.{IsRenewalDue, LeavesLists, ends_with_renewal}
-use Rattle.lxr_shared_heap.specs.Resting.{GoesOnBehind}
+use Rattle.lxr_shared_heap.specs.Resting.{BeginsAsWished, GoesOnBehind}
 use Rattle.lxr_stations.specs.Running.{IsRunning, shown_of}
 use Rattle.lxr_shared_heap.specs.Settings.{AreSettings, listed_first, run_of}
 use Rattle.lxr_stations.specs.Stations.{HasAnswered, HasGoneOn, IsStationOf, Stationed, asked, housed_in, is_mutator, replied}
@@ -251,12 +251,13 @@ still_asked mutators = map (λ (m : Mutating). drop (length m.replies.items) m.o
 abbrev pub IsRenewed : Type 0 → List Mutating → Script → List Item → Script → List Item → Type 0
 IsRenewed Due mutators script h script' h' = ((¬ Due) × (script' ≡ script) × (h' ≡ h)) ⊎ (Due × (names : List Name) × (h' ≡ Renew names ∷ h) × (script' ≡ still_asked mutators))
 
--- A heap has come to rest behind an epoch that had led to these calls: the pause was made, what waited is answered, and names are renewed exactly
+-- A heap has come to rest behind an epoch that had led to these calls: the pause was made, which begins a trace where that was wished for, what waited is answered, and names are renewed exactly
 -- where that is due. Before that the replies of each mutator, with those that the pause has answered, are its thread's in the history. The last
 -- report lists counts where names were renewed, and else none.
-pub record ComesToRest (settings : Settings) (script : Script) (calls : List Item) (mutators : List Mutating) (now : Stage) : Type 0 where
+pub record ComesToRest (begins : Bool) (settings : Settings) (script : Script) (calls : List Item) (mutators : List Mutating) (now : Stage) : Type 0 where
   pub report : PauseReport
   pub collects : (report.kind ≡ kind.Collect) ↔ MustCollect (terms_of (run_of settings script)) calls
+  pub traces : BeginsAsWished begins (run_of settings script) calls report
   pub answered : List Mutating
   pub history : List Item
   pub behind : GoesOnBehind (run_of settings script) report calls mutators answered history
@@ -289,7 +290,7 @@ HasListed to_list _ next = ⊥
 -- on by calls alone, in which each has the replies that it showed; then the pause was made, which collects exactly where it must; the history goes
 -- on behind it by what waited and by the further pauses for that; and behind all that runs are listed for the next epoch, where the last listing has
 -- ended, and the names of what is left are renewed where that is due.
-pub record HasPaused (script : Script) (h : List Item) (before : Heaped) (of : IsHeapOf script h before) (after : Heaped) : Type 0 where
+pub record HasPaused (begins : Bool) (script : Script) (h : List Item) (before : Heaped) (of : IsHeapOf script h before) (after : Heaped) : Type 0 where
   pub script' : Script
   pub goes_on : GoesOn script script'
   pub schedule : List Event
@@ -303,18 +304,18 @@ pub record HasPaused (script : Script) (h : List Item) (before : Heaped) (of : I
   pub asked : script_of mutators ≡ script'
   pub names : TellNames before.settings.names mutators
   pub replied : HaveReplied calls mutators
-  pub rest : ComesToRest before.settings script' calls mutators after.stage
+  pub rest : ComesToRest begins before.settings script' calls mutators after.stage
   pub holds : IsHeapOf rest.renewed_script rest.renewed_history after
 
--- what has come of the wish for a pause
-abbrev pub Pauses : Paused → Heaped → Heaped → Type 0
-Pauses paused.Made before after = IsWithin before.stage × ((script : Script) (h : List Item) (of : IsHeapOf script h before) → HasPaused script h before of after)
-Pauses paused.NotWanted before after = IsWithin before.stage × (after ≡ before)
-Pauses (paused.Away number) before after = IsWithin before.stage × (number < actors_of before.settings) × (after ≡ before)
-Pauses paused.Shared before after = IsWithin before.stage × (after ≡ before)
-Pauses paused.NotRunning before after = IsBetween before.stage × (after ≡ before)
-Pauses paused.Ended before after = IsEnded before.stage × (after ≡ before)
-Pauses paused.Lost before after = (before.stage ≡ stage.Lost) × (after ≡ before)
+-- what has come of the wish for a pause, which is to begin a trace, or not
+abbrev pub Pauses : Bool → Paused → Heaped → Heaped → Type 0
+Pauses begins paused.Made before after = IsWithin before.stage × ((script : Script) (h : List Item) (of : IsHeapOf script h before) → HasPaused begins script h before of after)
+Pauses begins paused.NotWanted before after = IsWithin before.stage × (after ≡ before)
+Pauses begins (paused.Away number) before after = IsWithin before.stage × (number < actors_of before.settings) × (after ≡ before)
+Pauses begins paused.Shared before after = IsWithin before.stage × (after ≡ before)
+Pauses begins paused.NotRunning before after = IsBetween before.stage × (after ≡ before)
+Pauses begins paused.Ended before after = IsEnded before.stage × (after ≡ before)
+Pauses begins paused.Lost before after = (before.stage ≡ stage.Lost) × (after ≡ before)
 
 -- Each mutator that was handed in is the one of its number, with all that it was asked for and all its replies: of it its log's entries and what it
 -- had drawn alone have gone.
@@ -324,12 +325,12 @@ AreAsHandedIn handed mutators = (number : ℕ) (s : Stationed) (m : Mutating) �
 -- A pause was made, and the mutators that were handed in are those of its history. Each station that was has seen a beginning of the schedule, with
 -- all events of its own, and each whose homecoming was handed in has seen a beginning. The history in which a station told what it answered is a
 -- beginning of the pause's; and so is that of each station whose homecoming was handed in, in which it told what it had answered when it came home.
-pub record HasPausedWith (handed : List (Option Arrival)) (script : Script) (h : List Item) (before : Heaped) (of : IsHeapOf script h before) (after : Heaped) : Type 0 where
-  pub made : HasPaused script h before of after
+pub record HasPausedWith (begins : Bool) (handed : List (Option Arrival)) (script : Script) (h : List Item) (before : Heaped) (of : IsHeapOf script h before) (after : Heaped) : Type 0 where
+  pub made : HasPaused begins script h before of after
   pub as_handed_in : AreAsHandedIn handed made.mutators
   pub seen : (number : ℕ) (s : Stationed) → IsHandedIn handed number s → IsSeen made.schedule number s.pass.seen
   pub begun : (number : ℕ) (s : Stationed) → HasComeHome handed number s → (rest : List Event) × (made.schedule ≡ s.pass.seen ++ rest)
-  pub begins : (number : ℕ) (s : Stationed) → Tells handed number s → Extends (length script) before.settings.every (history_behind script h before of s.pass.seen) made.calls
+  pub told_by : (number : ℕ) (s : Stationed) → Tells handed number s → Extends (length script) before.settings.every (history_behind script h before of s.pass.seen) made.calls
 
 -- by all passes of the epoch that is open, those that are handed in among them, a pause is wanted
 abbrev pub IsWantedIn : Stage → List (Option Arrival) → Type 0
@@ -339,14 +340,14 @@ IsWantedIn _ handed = ⊥
 -- What has come of the wish for a pause with stations and homecomings that are handed in: the same, but a pass that is away is none of a station's;
 -- where no pause is wanted none of the stations wants one, and not all are handed in with all mutators ended; and where threads have shares a pause
 -- is wanted.
-abbrev pub PausesWith : List (Option Arrival) → Paused → Heaped → Heaped → Type 0
-PausesWith handed paused.Made before after = IsWithin before.stage × ((script : Script) (h : List Item) (of : IsHeapOf script h before) → HasPausedWith handed script h before of after)
-PausesWith handed paused.NotWanted before after = Pauses paused.NotWanted before after × ((number : ℕ) (s : Stationed) → IsHandedIn handed number s → ¬ Wants s.pass.actor) × ¬ HaveEndedFrom (actors_of before.settings) 0 handed
-PausesWith handed (paused.Away number) before after = Pauses (paused.Away number) before after × ((s : Stationed) → ¬ IsHandedIn handed number s)
-PausesWith handed paused.Shared before after = Pauses paused.Shared before after × IsWantedIn before.stage handed
-PausesWith handed paused.NotRunning before after = Pauses paused.NotRunning before after
-PausesWith handed paused.Ended before after = Pauses paused.Ended before after
-PausesWith handed paused.Lost before after = Pauses paused.Lost before after
+abbrev pub PausesWith : Bool → List (Option Arrival) → Paused → Heaped → Heaped → Type 0
+PausesWith begins handed paused.Made before after = IsWithin before.stage × ((script : Script) (h : List Item) (of : IsHeapOf script h before) → HasPausedWith begins handed script h before of after)
+PausesWith begins handed paused.NotWanted before after = Pauses begins paused.NotWanted before after × ((number : ℕ) (s : Stationed) → IsHandedIn handed number s → ¬ Wants s.pass.actor) × ¬ HaveEndedFrom (actors_of before.settings) 0 handed
+PausesWith begins handed (paused.Away number) before after = Pauses begins (paused.Away number) before after × ((s : Stationed) → ¬ IsHandedIn handed number s)
+PausesWith begins handed paused.Shared before after = Pauses begins paused.Shared before after × IsWantedIn before.stage handed
+PausesWith begins handed paused.NotRunning before after = Pauses begins paused.NotRunning before after
+PausesWith begins handed paused.Ended before after = Pauses begins paused.Ended before after
+PausesWith begins handed paused.Lost before after = Pauses begins paused.Lost before after
 
 -- the answer where an epoch is not closed
 abbrev pub paused_for : NotClosed → Paused

@@ -5,3 +5,4 @@ pub mod Renewing
 pub mod Telling
 pub mod Heaps
 pub mod Packing
+pub mod Trimming

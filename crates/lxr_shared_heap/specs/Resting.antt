@@ -5,6 +5,7 @@ use Rattle.lxr_graph.specs.History.{Item, Pause, PauseReport, report_of}
 use Rattle.lxr_image.specs.declared.space.Space.{Space}
 use Rattle.lxr_invariant.specs.AbstractState.{AbstractState}
 use Rattle.lxr_model.specs.Kinds.{MustCollect, ends}
+use Rattle.lxr_model.specs.Moments.{moment}
 use Rattle.lxr_model.specs.Reports.{is_draining}
 use Rattle.lxr_mutator.specs.Mutating.{Mutating}
 use Rattle.lxr_core.specs.declared.actors.AnyActor.{AnyActor}
@@ -14,7 +15,7 @@ use Rattle.lxr_one_pause.specs.Pausing.{IsDrained}
 use Rattle.lxr_placing.specs.Listing.{Lists}
 use Rattle.lxr_placing.specs.declared.listing.ToList.{ToList}
 use Rattle.lxr_rounds.specs.Answering.{AnswersWaiting}
-use Rattle.lxr_rounds_invariant.specs.LoopInvariant.{HasRunEpoch, HasRunTo, HaveEnded, HaveMutators, IsBetweenEpochs, SomeWait, Task, pace_of, terms_of}
+use Rattle.lxr_rounds_invariant.specs.LoopInvariant.{HasRunEpoch, HasRunTo, HaveEnded, HaveMutators, IsBetweenEpochs, SomeWait, Task, pace_of, terms_of, threads_of}
 use Rattle.lxr_shared_heap.specs.declared.settings.Settings.{Settings}
 use Rattle.lxr_shared_heap.specs.Settings.{run_of}
 use Rattle.lxr_model.specs.Belongs.{Script}
@@ -39,11 +40,17 @@ abbrev pub StandsBehind : Bool → Task → Space → List AnyActor → List Ite
 StandsBehind true task space actors h = HasRunTo task space None actors h
 StandsBehind false task space actors h = (g : AbstractState) × IsBetweenEpochs task space None actors h g
 
+-- Where settings leave it free when traces begin, a pause begins one exactly where that is wished for, it needn't collect, and none runs.
+abbrev pub BeginsAsWished : Bool → Task → List Item → PauseReport → Type 0
+BeginsAsWished begins task calls report = task.plan.trace ≡ 0
+    → (report.kind ≡ kind.Begin) ↔ (IsTrue begins × (¬ MustCollect (terms_of task) calls) × ((moment (threads_of task) calls).trace ≡ None))
+
 -- The pause behind an epoch was made, which collects exactly where it must, and what waited is answered. Nobody was asked for anything. It is the
 -- last one where all mutators have ended.
-pub record HasRested (task : Task) (calls : List Item) (actors : List AnyActor) (space' : Space) (actors' : List AnyActor) (ended : Bool) : Type 0 where
+pub record HasRested (begins : Bool) (task : Task) (calls : List Item) (actors : List AnyActor) (space' : Space) (actors' : List AnyActor) (ended : Bool) : Type 0 where
   pub report : PauseReport
   pub collects : (report.kind ≡ kind.Collect) ↔ MustCollect (terms_of task) calls
+  pub traces : BeginsAsWished begins task calls report
   pub history : List Item
   pub behind : GoesOnBehind task report calls (mutators_in actors) (mutators_in actors') history
   pub stands : StandsBehind ended task space' actors' history
@@ -62,6 +69,6 @@ abbrev pub HasMadeEpoch : Settings → Space → List AnyActor → Type 0
 HasMadeEpoch settings space actors = (script : Script) × (before : List AnyActor) × (calls : List Item) × (g : AbstractState) × HasRunEpoch (run_of settings script) space None before actors calls g
 
 -- each such run has rested
-abbrev pub RestsEach : Settings → Space → List AnyActor → Space → List AnyActor → Bool → Type 0
-RestsEach settings space actors space' actors' ended =
-    (script : Script) (before : List AnyActor) (calls : List Item) (g : AbstractState) → HasRunEpoch (run_of settings script) space None before actors calls g → HasRested (run_of settings script) calls actors space' actors' ended
+abbrev pub RestsEach : Bool → Settings → Space → List AnyActor → Space → List AnyActor → Bool → Type 0
+RestsEach begins settings space actors space' actors' ended =
+    (script : Script) (before : List AnyActor) (calls : List Item) (g : AbstractState) → HasRunEpoch (run_of settings script) space None before actors calls g → HasRested begins (run_of settings script) calls actors space' actors' ended

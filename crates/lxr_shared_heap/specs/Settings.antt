@@ -25,7 +25,7 @@ pub record AreSettings (settings : Settings) : Type 0 where
   pub registers : (LEAST_REGISTERS ≤ settings.registers) × (settings.registers ≤ REGISTERS)
   pub evacuate : settings.evacuate ≤ settings.blocks / 8
   pub every : IsInRange settings.every 1048576
-  pub trace : IsInRange settings.trace 1000000
+  pub trace : settings.trace ≤ 1000000
   pub within : IsInRange settings.within 1000000
   pub runs : LEAST_LISTED ≤ settings.runs
 

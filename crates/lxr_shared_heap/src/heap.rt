@@ -1,5 +1,5 @@
 //! A heap that threads of a host share.
-ghost use Rattle.std.specs.Prelude.{◌≡◌, ℕ, [], ◌<◌, ◌↔◌, IfErr, IfOk, IfSome, IsSome, List, None, length, option_map};
+ghost use Rattle.std.specs.Prelude.{◌≡◌, ℕ, false, true, [], ◌<◌, ◌↔◌, IfErr, IfOk, IfSome, IsSome, List, None, length, option_map};
 ghost use Rattle.lxr_graph.specs.History.{Item, report_of};
 ghost use Rattle.lxr_model.specs.Belongs.{Script};
 ghost use Rattle.lxr_model.specs.Moments.{moment};
@@ -7,7 +7,7 @@ ghost use Rattle.lxr_invariant.specs.AbstractState.{AbstractState};
 ghost use Rattle.lxr_one_pause.specs.Telling.{TellsWanted};
 ghost use Rattle.lxr_rounds_history.specs.Left.{last_report};
 ghost use Rattle.lxr_rounds_invariant.specs.LoopInvariant.{HasRunEpoch};
-ghost use Rattle.lxr_shared_heap.specs.Heaps.{ComesToRest, DoneIsTold, HasListed, HeapsHaveHistories, IsAtRest, IsHeapOf, IsKept, IsOpened, IsPassOf, MutatorsComeFirst, MutatorsHaveLimits, OpenIsTold, Pauses, PausesWith, Resumes, StationsTellHistories, free_at, most_asked, most_asked_with, paused_for, space_at};
+ghost use Rattle.lxr_shared_heap.specs.Heaps.{ComesToRest, DoneIsTold, HasListed, HeapsHaveHistories, IsAtRest, IsBetween, IsHeapOf, IsKept, IsOpened, IsPassOf, MutatorsComeFirst, MutatorsHaveLimits, OpenIsTold, Pauses, PausesWith, Resumes, StationsTellHistories, free_at, most_asked, most_asked_with, paused_for, space_at};
 ghost use Rattle.lxr_core.specs.Actors.{mutators_in, script_of};
 ghost use Rattle.lxr_stations.specs.Living.{AreLive};
 ghost use Rattle.lxr_shared_heap.specs.Renewing.{ends_with_renewal};
@@ -16,12 +16,14 @@ ghost use Rattle.lxr_shared_heap.specs.Settings.{AreSettings, run_of};
 ghost use Rattle.lxr_stations.specs.Arriving.{AreArrivalsOf, Tells};
 ghost use Rattle.lxr_stations.specs.Stations.{Stationed, housed_in};
 ghost use Rattle.lxr_shared_heap.specs.Telling.{EndByNewest};
+ghost use Rattle.lxr_shared_heap.specs.Trimming.{Trims};
 
 use crate::making::new_heap;
 use crate::packed::Packed;
 use crate::pausing::rest;
 use crate::renewing::{renew_where_due, some_waits};
 use crate::settings::Settings;
+use crate::trimming::Trimmed;
 use lxr_core::AnyActor;
 use lxr_graph::Report;
 use lxr_image::Space;
@@ -184,17 +186,24 @@ impl Heap {
     ///
     /// The scheme is that of LXR (Zhao, Blackburn and McKinley, 2022).
     pub fn pause(&mut self) -> Paused
-        ensures { Pauses result self.old self.new }
+        ensures { Pauses false result self.old self.new }
     {
         self.pause_watched(&mut Unseen)
+    }
+
+    /// As `pause`, which begins a trace too, where `trace` of the settings is 0: unless it collects, or one runs.
+    pub fn pause_and_trace(&mut self) -> Paused
+        ensures { Pauses true result self.old self.new }
+    {
+        self.pause_by(&mut [], true, &mut Unseen)
     }
 
     /// As `pause`, with a watch that looks at the space right before and right after each pause, where a host finds the report of each. No clause
     /// speaks of what the watch sees.
     pub fn pause_watched<W: Watch>(&mut self, watch: &mut W) -> Paused
-        ensures { Pauses result self.old self.new }
+        ensures { Pauses false result self.old self.new }
     {
-        self.pause_by(&mut [], watch)
+        self.pause_by(&mut [], false, watch)
     }
 
     /// As `pause`, with what threads hand in, the k-th place for the pass of number k: its station, or the homecoming of one; a place may be empty,
@@ -209,20 +218,56 @@ impl Heap {
     /// them, a pause is wanted.
     pub fn pause_with(&mut self, mut arrivals: Vec<Option<Arrival>>) -> Paused
         requires { (number : ℕ) (s : Stationed) → Tells arrivals.items number s → IsPassOf self.old.stage number s }
-        ensures { PausesWith arrivals.items result self.old self.new }
+        ensures { PausesWith false arrivals.items result self.old self.new }
     {
-        self.pause_by(&mut arrivals, &mut Unseen)
+        self.pause_by(&mut arrivals, false, &mut Unseen)
     }
 
-    /// The pause with what is handed in, which a watch looks at.
-    fn pause_by<W: Watch>(&mut self, arrivals: &mut [Option<Arrival>], watch: &mut W) -> Paused
+    /// The pause with what is handed in, which a watch looks at, and which is to begin a trace or not.
+    fn pause_by<W: Watch>(
+        &mut self,
+        arrivals: &mut [Option<Arrival>],
+        begins: bool,
+        watch: &mut W,
+    ) -> Paused
         requires { (number : ℕ) (s : Stationed) → Tells arrivals.old number s → IsPassOf self.old.stage number s }
-        ensures { PausesWith arrivals.old result self.old self.new }
+        ensures { PausesWith begins arrivals.old result self.old self.new }
     {
         let stage = mem::replace(&mut self.stage, Stage::Lost);
-        let (stage, paused) = stage.paused(arrivals, self.settings, &mut self.to_list, watch);
+        let (stage, paused) = stage.paused(
+            arrivals,
+            self.settings,
+            begins,
+            &mut self.to_list,
+            watch,
+        );
         self.stage = stage;
         paused
+    }
+
+    /// Makes the words of the first Free block from one on 0, between two epochs, and answers which block that is. So all of them are 0 once it was
+    /// called with 0, and with the next number until no block is left; a page of memory that is 0 may then go back to the system, which gives zeros
+    /// where it is read again. Nothing else changes, and no history has it: no object lies in a Free block, nothing of it is drawn between epochs, and
+    /// a new object writes each of its words.
+    pub fn trim_next(&mut self, alloc: Global, from: u32) -> Trimmed
+        ensures { Trims from result self.old self.new }
+    {
+        let stage = mem::replace(&mut self.stage, Stage::Lost);
+        let (stage, trimmed) = stage.trimmed(alloc, from);
+        self.stage = stage;
+        trimmed
+    }
+
+    /// The address of the first word of the heap's blocks, for a heap between two epochs: block 0 begins there, and each further one 32 KB after the
+    /// one before it. It stays for as long as the heap is open. No clause can say that it is this address.
+    pub fn first_word(&mut self, alloc: Global) -> Option<*const u64>
+        ensures between { IsSome result → IsBetween self.old.stage }
+        ensures kept { self.new ≡ self.old }
+    {
+        let stage = mem::replace(&mut self.stage, Stage::Lost);
+        let (stage, first) = stage.first_word(alloc);
+        self.stage = stage;
+        first
     }
 
     /// The report of the last pause: some exactly where no epoch is open, the heap is not lost, and a pause was made.
@@ -305,18 +350,21 @@ impl Stage {
         self,
         arrivals: &mut [Option<Arrival>],
         settings: Settings,
+        begins: bool,
         to_list: &mut ToList,
         watch: &mut W,
     ) -> (Stage, Paused)
         requires heap { (script : Script) × (h : List Item) × IsHeapOf script h (record { settings = settings; stage = self; to_list = to_list.old }) }
         requires handed { (number : ℕ) (s : Stationed) → Tells arrivals.old number s → IsPassOf self number s }
-        ensures { PausesWith arrivals.old result.1 (record { settings = settings; stage = self; to_list = to_list.old }) (record { settings = settings; stage = result.0; to_list = to_list.new }) }
+        ensures { PausesWith begins arrivals.old result.1 (record { settings = settings; stage = self; to_list = to_list.old }) (record { settings = settings; stage = result.0; to_list = to_list.new }) }
     {
         match self {
             Stage::Between { space, actors } => {
                 (Stage::Between { space, actors }, Paused::NotRunning)
             }
-            Stage::Within(live) => close_and_pause(live, arrivals, settings, to_list, watch),
+            Stage::Within(live) => close_and_pause(
+                live, arrivals, settings, begins, to_list, watch,
+            ),
             Stage::Ended { space, actors } => (Stage::Ended { space, actors }, Paused::Ended),
             Stage::Lost => (Stage::Lost, Paused::Lost),
         }
@@ -328,16 +376,17 @@ fn close_and_pause<W: Watch>(
     live: Live,
     arrivals: &mut [Option<Arrival>],
     settings: Settings,
+    begins: bool,
     to_list: &mut ToList,
     watch: &mut W,
 ) -> (Stage, Paused)
     requires heap { (script : Script) × (h : List Item) × IsHeapOf script h (record { settings = settings; stage = Stage.Within live; to_list = to_list.old }) }
     requires handed { AreArrivalsOf (housed_in live) arrivals.old }
-    ensures { PausesWith arrivals.old result.1 (record { settings = settings; stage = Stage.Within live; to_list = to_list.old }) (record { settings = settings; stage = result.0; to_list = to_list.new }) }
+    ensures { PausesWith begins arrivals.old result.1 (record { settings = settings; stage = Stage.Within live; to_list = to_list.old }) (record { settings = settings; stage = result.0; to_list = to_list.new }) }
 {
     match live.close(arrivals) {
         Ok((space, actors)) => (
-            pause_behind(space, actors, settings, to_list, watch),
+            pause_behind(space, actors, settings, begins, to_list, watch),
             Paused::Made,
         ),
         Err(Unclosed { live, why }) => (Stage::Within(live), paused_for(why)),
@@ -349,6 +398,7 @@ fn pause_behind<W: Watch>(
     mut space: Space,
     mut actors: Vec<AnyActor>,
     settings: Settings,
+    begins: bool,
     to_list: &mut ToList,
     watch: &mut W,
 ) -> Stage
@@ -356,10 +406,10 @@ fn pause_behind<W: Watch>(
     requires made { HasMadeEpoch settings space actors.items }
     requires live { AreLive (mutators_in actors.items) }
     ensures lists { HasListed to_list.old result to_list.new }
-    ensures rests { (script : Script) (before : List AnyActor) (calls : List Item) (g : AbstractState) → HasRunEpoch (run_of settings script) space None before actors.items calls g → EndByNewest calls (mutators_in actors.items) → ComesToRest settings script calls (mutators_in actors.items) result }
+    ensures rests { (script : Script) (before : List AnyActor) (calls : List Item) (g : AbstractState) → HasRunEpoch (run_of settings script) space None before actors.items calls g → EndByNewest calls (mutators_in actors.items) → ComesToRest begins settings script calls (mutators_in actors.items) result }
 {
     let idle = !some_waits(&actors);
-    if rest(&mut space, &mut actors, settings, to_list, watch) {
+    if rest(&mut space, &mut actors, settings, begins, to_list, watch) {
         Stage::Ended {
             space: Packed::of(space),
             actors,

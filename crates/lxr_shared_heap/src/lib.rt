@@ -16,7 +16,9 @@ mod packed;
 mod pausing;
 mod renewing;
 mod settings;
+mod trimming;
 
 pub use heap::{Heap, Paused, Refused, Resumed};
 pub use lxr_stations::{Answer, Arrival, Homecoming, NoShare, NotOut, Station};
 pub use settings::{LEAST_LISTED, RUNS_LISTED, Settings};
+pub use trimming::Trimmed;

@@ -5,13 +5,16 @@
 ghost use Rattle.std.specs.Prelude.{◌≡◌, ◌<◌, length};
 ghost use Rattle.lxr_image.specs.Settled.{free_below};
 ghost use Rattle.lxr_image.specs.Spaces.{IsSpace, tables_of};
+ghost use Rattle.lxr_placing.specs.Trimming.{StandsForTheSame, ZeroesNext};
 
 use atomic_table::{Seat, Table, TableRule};
 use lxr_graph::Report;
 use lxr_image::{Rest, Space};
+use lxr_placing::zero_next_free;
 use lxr_tables::{KeyFrom, PlainWords, Words};
 use std::alloc::Global;
 use std::marker::Model;
+use std::ptr;
 
 /// The words that a table is opened over, for contracts alone.
 struct SameWords;
@@ -99,6 +102,14 @@ impl Packed {
         ensures { result ≡ space }
     {
         let free = space.free_blocks();
+        Packed::counted(space, free)
+    }
+
+    /// Packs a space whose Free blocks are so many.
+    fn counted(space: Space, free: u32) -> Packed
+        requires { free ≡ free_below (tables_of space) space.limits.blocks }
+        ensures { result ≡ space }
+    {
         let (words, rest) = space.into_parts();
         let words = if words.count() == 0 {
             None
@@ -122,6 +133,29 @@ impl Packed {
             None => PlainWords::empty(alloc),
         };
         Space::from_parts(words, rest)
+    }
+
+    /// Makes the words of the first Free block from one on 0, and answers which block that is. It takes no memory.
+    pub(crate) fn zero_next_free(self, alloc: Global, from: u32) -> (Packed, Option<u32>)
+        requires { IsSpace self }
+        ensures zeroes { ZeroesNext from self result.0 result.1 }
+        ensures stands { StandsForTheSame self result.0 }
+    {
+        let free = self.free;
+        let mut space = self.into_space(alloc);
+        let block = zero_next_free(&mut space, from);
+        (Packed::counted(space, free), block)
+    }
+
+    /// Where the first word of the heap's blocks lies, also while threads share it: packing moves no word. It takes no memory.
+    pub(crate) fn first_word(self, alloc: Global) -> (Packed, Option<*const u64>)
+        requires { IsSpace self }
+        ensures { result.0 ≡ self }
+    {
+        let free = self.free;
+        let space = self.into_space(alloc);
+        let first = space.lend_heap(0).map(|word| ptr::from_ref(word));
+        (Packed::counted(space, free), first)
     }
 
     /// How many blocks are Free.

@@ -35,7 +35,7 @@ pub struct Settings {
     pub evacuate: u32,
     /// After so many operations since the last pause a mutator does nothing more before the next one: 1 to 1,048,576.
     pub every: u32,
-    /// A trace may begin at each pause whose number is a multiple of this: 1 to 1,000,000.
+    /// A trace begins at each pause whose number is a multiple of this, unless one runs: 1 to 1,000,000; 0: at those alone of which it is wished for.
     pub trace: u32,
     /// After so many pauses a trace ends at the latest: 1 to 1,000,000.
     pub within: u32,
@@ -68,7 +68,7 @@ impl Settings {
         if self.evacuate > self.blocks / 8 || self.runs < LEAST_LISTED {
             return false;
         }
-        is_within(self.trace, 1_000_000) && is_within(self.within, 1_000_000)
+        self.trace <= 1_000_000 && is_within(self.within, 1_000_000)
     }
 
     /// The limits of the space.

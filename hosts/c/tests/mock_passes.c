@@ -66,9 +66,10 @@ struct pass {
 struct heap {
     atomic_uint shares, wanted, collect;
     lxr_passes_settings settings;
-    bool within, lost, waited;
+    bool within, lost, waited, traces;
     uint64_t pauses, before, since, kind;
-    uint32_t used; /* blocks: some more after each pause, and one after a collecting one */
+    uint64_t told; /* free blocks that were told: no atomic, so that a look at it races with any pass that is away */
+    uint32_t used; /* blocks: some more after each pause, and one after a collecting one and the end of a trace */
     void *epoch;
     struct object *world;
     struct pass passes[PASSES];
@@ -381,7 +382,7 @@ static bool are_settings(const lxr_passes_settings *settings) {
     return is_within(settings->blocks, 1, 65536) && is_within(settings->mutators, 1, MUTATORS) &&
            is_within(settings->helpers, 1, HELPERS) && is_within(settings->log, 1, 65536) && is_within(settings->remember, 1, 1048576) &&
            is_within(settings->registers, LXR_REGISTERS, LXR_MOST_REGISTERS) && is_within(settings->evacuate, 0, settings->blocks / 8) &&
-           is_within(settings->every, 1, 1048576) && is_within(settings->trace, 1, 1000000) && is_within(settings->within, 1, 1000000) &&
+           is_within(settings->every, 1, 1048576) && is_within(settings->trace, 0, 1000000) && is_within(settings->within, 1, 1000000) &&
            settings->runs >= LEAST_RUNS;
 }
 
@@ -451,12 +452,20 @@ static bool serve(struct heap *heap, struct pass *pass, bool collected) {
     return true;
 }
 
+/* The kind of a pause. A trace ends at the pause after the one that begins it. */
+static uint64_t kind_of(const struct heap *heap, bool collect, bool begin) {
+    if (collect) return LXR_KIND_COLLECT;
+    if (heap->traces) return LXR_KIND_END;
+    return begin && heap->settings.trace == 0 ? LXR_KIND_BEGIN : LXR_KIND_PLAIN;
+}
+
 /* One pause; whether each `new` is answered that lacked room. */
-static bool pause_once(struct heap *heap, bool collect) {
+static bool pause_once(struct heap *heap, bool collect, bool begin) {
     bool served = true;
-    heap->kind = collect ? LXR_KIND_COLLECT : LXR_KIND_PLAIN;
+    heap->kind = kind_of(heap, collect, begin);
+    heap->traces = heap->kind == LXR_KIND_BEGIN;
     heap->pauses++;
-    heap->used = collect ? 1 : heap->used + 30;
+    heap->used = heap->kind == LXR_KIND_COLLECT || heap->kind == LXR_KIND_END ? 1 : heap->used + 30;
     if (heap->used > heap->settings.blocks) heap->used = heap->settings.blocks;
     for (size_t at = 0; at < PASSES; at++) {
         struct pass *pass = &heap->passes[at];
@@ -485,19 +494,64 @@ static void renew_where_due(struct heap *heap) {
     heap->since = heap->pauses;
 }
 
-lxr_code lxr_passes_pause(lxr_passes *handle) {
+static lxr_code make_pause(lxr_passes *handle, bool begin) {
     if (!handle->live) return LXR_E_NO_HEAP;
     struct heap *heap = handle->block;
     lxr_code code = find_refusal(heap);
     if (code != LXR_OK) return code;
     heap->waited = false;
     heap->before = heap->since;
-    if (!pause_once(heap, atomic_load(&heap->collect) != 0)) pause_once(heap, true);
+    if (!pause_once(heap, atomic_load(&heap->collect) != 0, begin)) pause_once(heap, true, false);
     renew_where_due(heap);
     heap->within = false;
     atomic_store(&heap->wanted, 0);
     atomic_store(&heap->collect, 0);
     return LXR_OK;
+}
+
+lxr_code lxr_passes_pause(lxr_passes *handle) { return make_pause(handle, false); }
+
+lxr_code lxr_passes_pause_and_trace(lxr_passes *handle) { return make_pause(handle, true); }
+
+/* Why no block is told, if none is: the heap has to stand between two epochs, and then no pass is away. */
+static lxr_code find_trouble(lxr_passes *handle) {
+    if (!handle->live) return LXR_E_NO_HEAP;
+    struct heap *heap = handle->block;
+    if (heap->lost) return LXR_E_LOST;
+    if (heap->within) return LXR_E_EPOCH;
+    for (size_t at = 0; at < PASSES; at++) {
+        if (atomic_load(&heap->passes[at].away)) abort();
+    }
+    return LXR_OK;
+}
+
+/* The blocks behind those in use are free. */
+lxr_code lxr_passes_trim_next(lxr_passes *handle, uint32_t from, uint32_t *block) {
+    lxr_code code = find_trouble(handle);
+    if (code != LXR_OK) return code;
+    struct heap *heap = handle->block;
+    uint32_t next = from < heap->used ? heap->used : from;
+    if (next >= heap->settings.blocks) return LXR_E_NOTHING;
+    heap->told++;
+    *block = next;
+    return LXR_OK;
+}
+
+/* It has no blocks; objects lie where malloc places them. */
+lxr_code lxr_passes_first_word(lxr_passes *handle, const uint64_t **place) {
+    static const uint64_t none = 0;
+    lxr_code code = find_trouble(handle);
+    if (code != LXR_OK) return code == LXR_E_LOST ? LXR_E_EPOCH : code;
+    *place = &none;
+    return LXR_OK;
+}
+
+lxr_code lxr_passes_trim(lxr_passes *handle) {
+    const uint64_t *place = NULL;
+    uint32_t from = 0, block = 0;
+    lxr_code code = lxr_passes_first_word(handle, &place);
+    while (code == LXR_OK && lxr_passes_trim_next(handle, from, &block) == LXR_OK) from = block + 1;
+    return code;
 }
 
 lxr_code lxr_passes_count(const lxr_passes *handle, uint32_t what, uint64_t *number) {

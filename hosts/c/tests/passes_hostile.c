@@ -43,10 +43,12 @@ static void check(uint64_t found, uint64_t wanted, const char *what, int line) {
 /* The out parameters of all calls. A refused call leaves them as they are. */
 static uint32_t narrow = UNTOUCHED;
 static uint64_t wide = UNTOUCHED;
+static const uint64_t *place = NULL;
 
 static void is_untouched(int line) {
     check(narrow, UNTOUCHED, "the out parameter of a refused call", line);
     check(wide, UNTOUCHED, "the word of a refused call", line);
+    check(!place, 1, "the place of a refused call", line);
 }
 
 /* A refused call. */
@@ -87,7 +89,11 @@ static void try_empty(void) {
     IS(lxr_passes_close(&heap), LXR_E_NO_HEAP);
     IS(lxr_passes_resume(&heap), LXR_E_NO_HEAP);
     IS(lxr_passes_pause(&heap), LXR_E_NO_HEAP);
+    IS(lxr_passes_pause_and_trace(&heap), LXR_E_NO_HEAP);
     REFUSED(lxr_passes_count(&heap, LXR_COUNT_PAUSES, &wide), LXR_E_NO_HEAP);
+    IS(lxr_passes_trim(&heap), LXR_E_NO_HEAP);
+    REFUSED(lxr_passes_trim_next(&heap, 0, &narrow), LXR_E_NO_HEAP);
+    REFUSED(lxr_passes_first_word(&heap, &place), LXR_E_NO_HEAP);
     IS(lxr_station_leave(&heap, 0, &station), LXR_E_NO_HEAP);
     IS(lxr_station_close(&station), LXR_E_NO_HEAP);
     refuse_all(&station, LXR_E_NO_HEAP);
@@ -136,19 +142,19 @@ static void try_open(const lxr_passes_settings *settings, uint32_t fits) {
 static void try_settings(void) {
     const struct {
         size_t field;
-        uint32_t most;
+        uint32_t least, most;
     } ranges[] = {
-        { offsetof(lxr_passes_settings, mutators), 255 },   { offsetof(lxr_passes_settings, helpers), 8 },
-        { offsetof(lxr_passes_settings, log), 65536 },      { offsetof(lxr_passes_settings, remember), 1048576 },
-        { offsetof(lxr_passes_settings, every), 1048576 },  { offsetof(lxr_passes_settings, trace), 1000000 },
-        { offsetof(lxr_passes_settings, within), 1000000 },
+        { offsetof(lxr_passes_settings, mutators), 1, 255 },   { offsetof(lxr_passes_settings, helpers), 1, 8 },
+        { offsetof(lxr_passes_settings, log), 1, 65536 },      { offsetof(lxr_passes_settings, remember), 1, 1048576 },
+        { offsetof(lxr_passes_settings, every), 1, 1048576 },  { offsetof(lxr_passes_settings, trace), 0, 1000000 },
+        { offsetof(lxr_passes_settings, within), 1, 1000000 },
     };
     for (size_t at = 0; at < sizeof ranges / sizeof ranges[0]; at++) {
         const uint32_t tried[] = { 0, 1, ranges[at].most, ranges[at].most + 1, 256, 256 + 1, LAST };
         for (size_t it = 0; it < sizeof tried / sizeof tried[0]; it++) {
             lxr_passes_settings settings = good;
             *(uint32_t *)(void *)((char *)&settings + ranges[at].field) = tried[it];
-            try_open(&settings, tried[it] >= 1 && tried[it] <= ranges[at].most);
+            try_open(&settings, tried[it] >= ranges[at].least && tried[it] <= ranges[at].most);
         }
     }
 }
@@ -195,6 +201,7 @@ static void try_between(lxr_passes *heap, uint64_t pauses) {
     lxr_station station = { 0, 0 };
     IS(lxr_passes_open(heap, &good), LXR_E_IN_USE);
     IS(lxr_passes_pause(heap), LXR_E_EPOCH);
+    IS(lxr_passes_pause_and_trace(heap), LXR_E_EPOCH);
     IS(lxr_station_leave(heap, 0, &station), LXR_E_EPOCH);
     IS(lxr_station_leave(heap, LAST, &station), LXR_E_EPOCH);
     IS(station.live, 0);
@@ -208,12 +215,48 @@ static void try_between(lxr_passes *heap, uint64_t pauses) {
     REFUSED(lxr_passes_count(heap, LAST, &wide), LXR_E_WHAT);
 }
 
+/* How many words of a block aren't 0. The mock has no blocks. */
+static uint64_t words_in(const uint64_t *words, uint32_t block) {
+    uint64_t some = 0;
+#ifdef MOCK_PASSES
+    (void)words;
+    (void)block;
+#else
+    for (size_t at = 0; at < LXR_BLOCK_WORDS; at++) some += words[(size_t)block * LXR_BLOCK_WORDS + at] != 0;
+#endif
+    return some;
+}
+
+/* Between epochs each free block is told once, in order, with zeros for words; and their memory goes back. */
+static void try_trimming(lxr_passes *heap) {
+    uint32_t from = 0, told = 0, block = 0;
+    const uint64_t *words = NULL, *again = NULL;
+    IS(lxr_passes_first_word(heap, &words), LXR_OK);
+    for (; lxr_passes_trim_next(heap, from, &block) == LXR_OK; from = block + 1) {
+        IS(block >= from && block < good.blocks, 1);
+        IS(words_in(words, block), 0);
+        told++;
+    }
+    IS(lxr_passes_count(heap, LXR_COUNT_FREE_BLOCKS, &wide), LXR_OK);
+    IS(told, wide);
+    wide = UNTOUCHED;
+    REFUSED(lxr_passes_trim_next(heap, from, &narrow), LXR_E_NOTHING);
+    REFUSED(lxr_passes_trim_next(heap, LAST, &narrow), LXR_E_NOTHING);
+    IS(lxr_passes_trim(heap), LXR_OK);
+    IS(lxr_passes_first_word(heap, &again), LXR_OK);
+    IS(words == again, 1);
+}
+
 static void try_within(lxr_passes *heap) {
     IS(lxr_passes_open(heap, &good), LXR_E_IN_USE);
     IS(lxr_passes_resume(heap), LXR_E_EPOCH);
     IS(lxr_passes_pause(heap), LXR_E_NOT_WANTED);
+    IS(lxr_passes_pause_and_trace(heap), LXR_E_NOT_WANTED);
     REFUSED(lxr_passes_count(heap, LXR_COUNT_PAUSES, &wide), LXR_E_EPOCH);
     REFUSED(lxr_passes_count(heap, LXR_E_WHAT, &wide), LXR_E_WHAT);
+    IS(lxr_passes_trim(heap), LXR_E_EPOCH);
+    REFUSED(lxr_passes_trim_next(heap, 0, &narrow), LXR_E_EPOCH);
+    REFUSED(lxr_passes_first_word(heap, &place), LXR_E_EPOCH);
 }
 
 /* ---- Stations ---- */
@@ -327,6 +370,7 @@ static void try_pause(lxr_passes *heap) {
     IS(lxr_station_come_home(&other), LXR_OK);
     IS(lxr_passes_pause(heap), LXR_OK);
     try_between(heap, 1);
+    try_trimming(heap);
     IS(lxr_passes_count(heap, LXR_COUNT_LAST_KIND, &wide), LXR_OK);
     IS(wide, LXR_KIND_COLLECT);
     wide = UNTOUCHED;
@@ -371,6 +415,7 @@ int main(void) {
     try_all_registers(256);
     IS(lxr_passes_open(&heap, &good), LXR_OK);
     try_between(&heap, 0);
+    try_trimming(&heap);
     IS(lxr_passes_resume(&heap), LXR_OK);
     try_within(&heap);
     try_leaving(&heap);

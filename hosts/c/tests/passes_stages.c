@@ -15,7 +15,7 @@
 
 enum { LINE = 512, WORDS = 32, THREAD = 0, OTHER_THREAD = 1, HELPER = 2, NO_PASS = 4 };
 
-static const lxr_passes_settings settings = { sizeof settings, 8, 2, 1, 64, 1024, 100, 4, 2, 1, 0, 0, 0 };
+static const lxr_passes_settings settings = { sizeof settings, 64, 2, 1, 64, 1024, 100, 4, 2, 1, 0, 0, 0 };
 
 /* ---- Memory ---- */
 
@@ -129,6 +129,7 @@ static const struct {
 
 static uint64_t word;
 static uint32_t flag;
+static const uint64_t *place;
 
 static lxr_code open_heap(struct stage *at) { return lxr_passes_open(&at->heap, &settings); }
 static lxr_code close_heap(struct stage *at) { return lxr_passes_close(&at->heap); }
@@ -136,6 +137,10 @@ static lxr_code resume(struct stage *at) { return lxr_passes_resume(&at->heap); 
 static lxr_code pause_heap(struct stage *at) { return lxr_passes_pause(&at->heap); }
 static lxr_code count(struct stage *at) { return lxr_passes_count(&at->heap, LXR_COUNT_PAUSES, &word); }
 static lxr_code count_what(struct stage *at) { return lxr_passes_count(&at->heap, 100, &word); }
+static lxr_code trim(struct stage *at) { return lxr_passes_trim(&at->heap); }
+static lxr_code trim_next(struct stage *at) { return lxr_passes_trim_next(&at->heap, 0, &flag); }
+static lxr_code trim_beyond(struct stage *at) { return lxr_passes_trim_next(&at->heap, UINT32_MAX, &flag); }
+static lxr_code first_word(struct stage *at) { return lxr_passes_first_word(&at->heap, &place); }
 static lxr_code leave(struct stage *at) { return lxr_station_leave(&at->heap, at->number, &at->station); }
 static lxr_code leave_none(struct stage *at) { return lxr_station_leave(&at->heap, NO_PASS, &at->station); }
 static lxr_code other(struct stage *at) { return lxr_station_leave(&at->heap, at->number, &at->other); }
@@ -164,6 +169,11 @@ static const struct {
     { "pause", pause_heap, false },
     { "count", count, false },
     { "count_what", count_what, false },
+    { "trim", trim, false },
+    { "trim_refused", trim, true },
+    { "trim_next", trim_next, false },
+    { "trim_beyond", trim_beyond, false },
+    { "first_word", first_word, false },
     { "leave", leave, false },
     { "leave_refused", leave, true },
     { "leave_none", leave_none, false },

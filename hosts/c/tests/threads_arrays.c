@@ -770,7 +770,7 @@ static lxr_shared_heap_settings draw_settings(uint64_t *dice) {
     settings.helpers = (uint32_t)draw(dice) % 3;
     settings.log = draw(dice) % 2 ? 64 : 1024;
     settings.pace = draw(dice) % 2 ? LXR_PACE_ROOM : 20000 + draw(dice) % 20000;
-    settings.trace = 1 + (uint32_t)draw(dice) % 8;
+    settings.trace = draw(dice) % 2 ? (uint32_t)draw(dice) % 9 : 0;
     settings.within = (uint32_t)draw(dice) % 5;
     settings.registers = registers[draw(dice) % 4];
     return settings;

@@ -95,6 +95,7 @@ static void refuse_all(lxr_mutator *mutator, lxr_code code) {
     refuse_several(mutator, code);
     REFUSED(lxr_mutator_pause(mutator), code);
     REFUSED(lxr_mutator_collect(mutator), code);
+    REFUSED(lxr_mutator_trim(mutator), code);
     REFUSED(lxr_mutator_poll(mutator), code);
     REFUSED(lxr_mutator_rest(mutator), code);
 }
@@ -202,7 +203,7 @@ static void try_settings(void) {
         { offsetof(lxr_shared_heap_settings, mutators), 1, 255 },  { offsetof(lxr_shared_heap_settings, helpers), 0, 8 },
         { offsetof(lxr_shared_heap_settings, log), 1, 65536 },     { offsetof(lxr_shared_heap_settings, remember), 1, 1048576 },
         { offsetof(lxr_shared_heap_settings, evacuate), 0, 1 },    { offsetof(lxr_shared_heap_settings, every), 1, 1000000 },
-        { offsetof(lxr_shared_heap_settings, trace), 1, 1000000 }, { offsetof(lxr_shared_heap_settings, within), 0, 1000000 },
+        { offsetof(lxr_shared_heap_settings, trace), 0, 1000000 }, { offsetof(lxr_shared_heap_settings, within), 0, 1000000 },
         { offsetof(lxr_shared_heap_settings, room), 0, 8 },        { offsetof(lxr_shared_heap_settings, grow), 0, 10000 },
     };
     for (size_t at = 0; at < sizeof ranges / sizeof ranges[0]; at++) {
@@ -617,6 +618,44 @@ static void try_pauses(lxr_shared_heap *heap, lxr_mutator *mutator) {
     IS(lxr_mutator_poll(mutator), LXR_OK);
 }
 
+/* A new object with one reference. The mock says at random that there is no room. */
+static void make_one(lxr_mutator *mutator, uint32_t dest, uint32_t words) {
+    lxr_code code = LXR_E_FULL;
+    while (code == LXR_E_FULL) code = lxr_mutator_new(mutator, dest, 1, words);
+    IS(code, LXR_OK);
+}
+
+/* Memory of free blocks goes back in a pause: what is kept stays, and new objects have nil references and zeros where others lay. */
+static void try_trimming(lxr_shared_heap *heap, lxr_mutator *mutator) {
+    for (uint64_t times = 1; times < 4; times++) {
+        uint64_t before = count(heap, LXR_COUNT_PAUSES);
+        make_one(mutator, 1, 2);
+        IS(lxr_mutator_put(mutator, 1, 1, times), LXR_OK);
+        for (uint32_t made = 0; made < 200; made++) {
+            make_one(mutator, 2, 100);
+            IS(lxr_mutator_load(mutator, 3, 2, 0), LXR_OK);
+            IS(lxr_mutator_same(mutator, 3, 15, &narrow), LXR_OK);
+            IS(narrow, 1);
+            for (uint32_t word = 0; word < 100; word += 33) {
+                IS(lxr_mutator_add(mutator, 2, word, LAST, &wide), LXR_OK);
+                IS(wide, 0);
+            }
+            IS(lxr_mutator_store(mutator, 2, 0, 1), LXR_OK);
+            if (made % 50 == 20) IS(lxr_mutator_trim(mutator), LXR_OK);
+        }
+        IS(lxr_mutator_nil(mutator, 2), LXR_OK);
+        IS(lxr_mutator_nil(mutator, 3), LXR_OK);
+        IS(lxr_mutator_collect(mutator), LXR_OK);
+        IS(lxr_mutator_trim(mutator), LXR_OK);
+        IS(count(heap, LXR_COUNT_PAUSES) > before + 5, 1);
+        IS(lxr_mutator_get(mutator, 1, 1, &wide), LXR_OK);
+        IS(wide, times);
+        narrow = UNTOUCHED;
+        wide = UNTOUCHED;
+    }
+    IS(lxr_mutator_nil(mutator, 1), LXR_OK);
+}
+
 /* A mutator makes more operations than one may be ordered before names are renewed, while another rests. */
 static void live_long(void) {
     lxr_shared_heap *heap = NULL;
@@ -671,6 +710,7 @@ int main(int words, char **unused) {
     try_counts(heap);
     try_rest(heap, mutator);
     try_pauses(heap, mutator);
+    try_trimming(heap, mutator);
     IS(lxr_mutator_leave(&mutator), LXR_OK);
     IS(lxr_shared_heap_close(&heap), LXR_OK);
     if (words > 1) live_long();

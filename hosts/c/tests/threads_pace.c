@@ -27,6 +27,7 @@ static void check(uint64_t found, uint64_t wanted, const char *what, int line) {
 
 static void open_paced(uint32_t blocks, uint32_t mutators, uint64_t pace) {
     lxr_shared_heap_settings settings = LXR_SHARED_HEAP_SETTINGS(blocks, mutators);
+    settings.trace = LXR_MOST_TRACE; /* so that no trace makes pauses come sooner */
     IS(settings.pace, LXR_PACE_ROOM);
     settings.pace = pace;
     settings.every = LXR_MOST_EVERY;

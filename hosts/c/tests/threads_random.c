@@ -3,9 +3,9 @@
  *
  * usage: threads_random SECONDS [SEED]     rounds for so long, each from a number of its own on; with 0 seconds one round, from SEED
  *
- * A round opens a heap of 1 to 3,000 blocks, of which a trace evacuates up to an eighth, for 1 to 255 mutators with 16, 64 or 256 registers
- * each, and starts threads: mostly up to sixteen, and rarely more. They enter and leave it, rest, poll, ask for pauses, and make some thousand
- * operations each, or as many together where they are more. What only one thread holds is kept beside the heap as a plain graph, and each
+ * A round opens a heap of 1 to 3,000 blocks, of which a trace evacuates up to an eighth, for 1 to 255 mutators with 16 to 256 registers each,
+ * and starts threads: mostly up to sixteen, and rarely more. They enter and leave it, rest, poll, ask for pauses, have memory of free blocks go
+ * back, and make some thousand operations each, or as many together where they are more. What only one thread holds is kept beside the heap as a plain graph, and each
  * code and word has to be that of the graph. What threads share has to keep what they agree on: tokens that are swapped stay as many as they
  * were, and one thread or field holds each; adds to a counter lose nothing; and an object that a thread finds is one that was made whole
  * before it was stored.
@@ -494,7 +494,7 @@ static void set_room(struct player *player) {
 
 static void play_rarely(struct player *player) {
     player->pauses++;
-    switch (below(player, 9)) {
+    switch (below(player, 11)) {
     case 5: set_room(player); break;
     case 0: done(player, "pause", lxr_mutator_pause(player->mutator)); break;
     case 1: done(player, "collect", lxr_mutator_collect(player->mutator)); break;
@@ -503,6 +503,8 @@ static void play_rarely(struct player *player) {
         leave(player, one_in(player, 2));
         enter(player);
         break;
+    case 6:
+    case 7: done(player, "trim", lxr_mutator_trim(player->mutator)); break;
     case 4: agree(player, "a write to the world's register", lxr_mutator_nil(player->mutator, WORLD), LXR_E_REGISTER); break;
     default: rest(player);
     }
@@ -598,17 +600,18 @@ static uint32_t draw_evacuate(uint64_t *dice, const lxr_shared_heap_settings *se
     return draw(dice) % 2 ? settings->evacuate : (uint32_t)draw(dice) % (settings->blocks / 8 + 1);
 }
 
-/* As many registers as without a word, as there can be, or some between. */
+/* As many registers as without a word, as few or as many as there can be, and mostly any number of them. */
 static uint32_t draw_registers_of(uint64_t *dice) {
-    static const uint32_t some[] = { 0, LXR_REGISTERS, 64, LXR_MOST_REGISTERS };
-    return some[draw(dice) % 4];
+    static const uint32_t ends[] = { 0, LXR_REGISTERS, LXR_MOST_REGISTERS };
+    uint32_t kind = (uint32_t)draw(dice) % 6;
+    return kind < 3 ? ends[kind] : LXR_REGISTERS + (uint32_t)draw(dice) % (LXR_MOST_REGISTERS + 1 - LXR_REGISTERS);
 }
 
-/* As many mutators as threads, or one fewer, or any number above. */
+/* As many mutators as threads, or one fewer, or, half of the time, any number above, of which most are never in the heap. */
 static uint32_t draw_mutators(uint64_t *dice) {
     uint32_t kind = (uint32_t)draw(dice) % 4;
     if (kind == 0 && now.players > 2) return now.players - 1;
-    return kind == 1 ? now.players + (uint32_t)draw(dice) % (LXR_MOST_MUTATORS + 1 - now.players) : now.players;
+    return kind > 1 ? now.players + (uint32_t)draw(dice) % (LXR_MOST_MUTATORS + 1 - now.players) : now.players;
 }
 
 /* So few that names are renewed in time; an operation of a mutator after the sixteenth counts sixteen times for that. */
@@ -622,7 +625,7 @@ static lxr_shared_heap_settings draw_settings(uint64_t *dice) {
     settings.every = RENEWS ? draw_renewing(dice) : draw(dice) % 2 ? 20 + (uint32_t)draw(dice) % 500 : 65536;
     settings.log = draw(dice) % 2 ? 8 : 1024;
     settings.pace = draw(dice) % 3 == 0 ? LXR_PACE_ROOM : draw(dice) % 2 ? LXR_PACE_NEVER : 1 + draw(dice) % 20000;
-    settings.trace = 1 + (uint32_t)draw(dice) % 8;
+    settings.trace = draw(dice) % 2 ? (uint32_t)draw(dice) % 9 : 0;
     settings.within = (uint32_t)draw(dice) % 5;
     settings.registers = draw_registers_of(dice);
     settings.room = (uint32_t)draw(dice) % (blocks + 1);

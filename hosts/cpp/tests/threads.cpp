@@ -351,6 +351,30 @@ void full_heaps() {
     CHECK(self.try_make(1000, 1000));
 }
 
+/// Memory goes back while a thread works: what is kept stays, and new objects are nil and 0 where others lay.
+void trims() {
+    lxr::shared_heap heap(100, 2);
+    std::thread other([&] {
+        lxr::mutator mutator(heap);
+        auto kept = mutator.make(1, 1);
+        kept.put(0, 7);
+        for (int n = 0; n < 3000; ++n) {
+            auto made = mutator.make(1, 100);
+            CHECK(!made.load(0) && made.get(99) == 0);
+            made.put(99, 5);
+            made.store(0, kept);
+        }
+        CHECK(kept.get(0) == 7);
+    });
+    for (int n = 0; n < 20; ++n) {
+        lxr::mutator mutator(heap);
+        const auto before = heap.pauses();
+        mutator.trim();
+        CHECK(heap.pauses() > before);
+    }
+    other.join();
+}
+
 }  // namespace
 
 int main() {
@@ -368,6 +392,7 @@ int main() {
         runs();
         registers();
         full_heaps();
+        trims();
     } catch (const std::exception& wrong) {
         std::cerr << wrong.what() << '\n';
         return 1;

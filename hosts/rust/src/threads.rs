@@ -71,7 +71,8 @@ pub struct Settings {
     pub remember: u32,
     /// A mutator wants a pause after so many operations since the last one, 1 to 1,000,000.
     pub every: u32,
-    /// Each pause whose number is a multiple of it begins a trace, where none runs, 1 to 1,000,000.
+    /// Each pause whose number is a multiple of it begins a trace, where none runs, up to 1,000,000. By 0 the room says when: once more than half of
+    /// what the last end of a trace or collecting pause left of it is used; until one has told what lives, a room that grows counts as 64 blocks.
     pub trace: u32,
     /// A trace ends at the latest so many pauses after it began, up to 1,000,000; by 0 once all is marked.
     pub within: u32,
@@ -102,7 +103,7 @@ impl Settings {
             log: 1024,
             remember: 65_536,
             every: 65_536,
-            trace: 16,
+            trace: 0,
             within: 0,
             pace: Pace::Room,
             evacuate,
@@ -137,13 +138,13 @@ impl Settings {
         self
     }
 
-    /// So many pauses from one trace to the next.
+    /// So many pauses from one trace to the next; by 0 they come by the room.
     pub const fn trace(mut self, trace: u32) -> Settings {
         self.trace = trace;
         self
     }
 
-    /// So many pauses within which a trace ends; by 0 it has as many as it takes.
+    /// So many pauses within which a trace ends; by 0 it has as many as it takes, or one without helpers.
     pub const fn within(mut self, within: u32) -> Settings {
         self.within = within;
         self
@@ -630,6 +631,15 @@ impl<'h> Mutator<'h> {
     /// Those of each operation.
     pub fn collect(&mut self) -> Result<(), Error> {
         done(unsafe { raw::lxr_mutator_collect(self.raw()) })
+    }
+
+    /// Makes a pause in which memory of blocks that are wholly free then goes back to the system: [`collect`](Self::collect) before it gives most.
+    /// Nothing else that can be told changes.
+    ///
+    /// # Errors
+    /// Those of each operation.
+    pub fn trim(&mut self) -> Result<(), Error> {
+        done(unsafe { raw::lxr_mutator_trim(self.raw()) })
     }
 
     /// Takes part in a pause, where one is wanted: for what goes on for long without operations.

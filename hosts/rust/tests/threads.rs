@@ -170,6 +170,32 @@ fn rooms_are_set_and_grow() -> Result<(), Error> {
 }
 
 #[test]
+fn memory_goes_back_while_a_thread_works() -> Result<(), Error> {
+    let heap = open(100, 2);
+    thread::scope(|scope| {
+        let other = scope.spawn(|| -> Result<(), Error> {
+            let mut mutator = heap.enter()?;
+            mutator.make(R1, 1, 1)?;
+            mutator.put(R1, 0, 7)?;
+            for _ in 0..3000 {
+                mutator.make(R2, 1, 100)?;
+                assert_eq!(mutator.get(R2, 99), Ok(0));
+                mutator.put(R2, 99, 5)?;
+                mutator.store(R2, 0, R1)?;
+            }
+            assert_eq!(mutator.get(R1, 0), Ok(7));
+            Ok(())
+        });
+        for _ in 0..20 {
+            let before = heap.count(Count::Pauses);
+            heap.enter()?.trim()?;
+            assert!(heap.count(Count::Pauses) > before);
+        }
+        other.join().expect("the other thread ends")
+    })
+}
+
+#[test]
 fn a_large_heap_lists_as_many_runs_as_the_settings_say() -> Result<(), Error> {
     assert_eq!(Settings::new(1100, 1).runs, 0);
     for (runs, fits) in [(1, false), (63, false), (64, true), (1000, true), (u32::MAX, true)] {

@@ -12,7 +12,7 @@ use super::Mutator;
 use crate::operating::dest_of;
 use crate::phases::{MutatorPhase, Stop};
 use lxr_alloc::Spans;
-use lxr_graph::Reply;
+use lxr_graph::{Op, Reply};
 use lxr_layout::{LINES_IN_BLOCK, MOST_BLOCKS, Place, Run, Shape, lines_of, words_of};
 
 impl Mutator {
@@ -156,12 +156,13 @@ impl Mutator {
 
     /// The header of the new object was stored: the operation is done, and its register holds the place.
     #[inline(always)]
-    pub(super) fn hand_out(&mut self, place: Place)
-        requires { IsBusy self.old (MutatorPhase.Heading place) }
+    pub(super) fn hand_out(&mut self, op: Op, place: Place)
+        requires op { op ≡ op_now self.old }
+        requires busy { IsBusy self.old (MutatorPhase.Heading place) }
         ensures { self.new ≡ done_with (with_register self.old (dest_of (op_now self.old)) place) (Reply.New (next_name self.old)) }
     {
         let name = self.next_name();
-        self.set_register(dest_of(self.op()), place);
+        self.set_register(dest_of(self.told_op(op)), place);
         self.reply(Reply::New(name));
     }
 }

@@ -17,21 +17,23 @@ use lxr_graph::{Op, Reply};
 use lxr_layout::{Header, MOST_GRANULES, Name, Place, Shape, unpack, word_of, words_of};
 
 impl Mutator {
-    /// The header of the base was loaded: the operation goes on at a field of it, if it has one of this index.
+    /// The header of the base was loaded: the operation goes on at a field of it, if it has one of this index. Whether it does.
     #[inline(always)]
-    pub(super) fn reach_field(&mut self, base: Place, header: u64)
+    pub(super) fn reach_field(&mut self, base: Place, header: u64) -> bool
         requires { IsBusy self.old (MutatorPhase.Base base) }
         ensures { self.new ≡ next_in self.old (MutatorPhase.Base base) header }
     {
         let Some(shape) = self.shape_at(base, header) else {
             self.reply_seldom(Reply::Bad);
-            return;
+            return false;
         };
-        let op = self.op();
+        let op = self.open_op();
         if index_of(op) < indexed_fields(op, shape) {
             self.go_to_field(base, shape, op);
+            true
         } else {
             self.reply_seldom(Reply::Range);
+            false
         }
     }
 
@@ -81,17 +83,19 @@ impl Mutator {
 
     /// A reference was loaded: its register holds what it refers to. Who tells names looks its name up, unless it is nil.
     #[inline(always)]
-    pub(super) fn keep_reference(&mut self, base: Place, reference: u64)
-        requires { IsBusy self.old (MutatorPhase.Reference base) }
+    pub(super) fn keep_reference(&mut self, op: Op, base: Place, reference: u64)
+        requires op { op ≡ op_now self.old }
+        requires busy { IsBusy self.old (MutatorPhase.Reference base) }
         ensures { self.new ≡ next_in self.old (MutatorPhase.Reference base) reference }
     {
-        self.hold_reference(reference);
+        self.hold_reference(op, reference);
     }
 
     /// A word was found in the field: where it is a reference, its register holds what it refers to. Who tells names looks its name up,
     /// unless it is nil.
     #[inline(always)]
-    fn hold_reference(&mut self, reference: u64)
+    fn hold_reference(&mut self, op: Op, reference: u64)
+        requires op { op ≡ op_now self.old }
         requires turn { self.old.phase ≢ MutatorPhase.Finished }
         requires operation { length self.old.replies.items < length self.old.operations }
         ensures { self.new ≡ (if nat_le reference (MOST_GRANULES) then loaded self.old (place_in reference) else done_with self.old Reply.Bad) }
@@ -101,8 +105,7 @@ impl Mutator {
             return;
         }
         let place = Place(reference as u32);
-        let op = self.op();
-        self.set_register(dest_of(op), place);
+        self.set_register(dest_of(self.told_op(op)), place);
         if place.0 == 0 {
             self.reply(found_reply(op, None));
         } else if self.names {
@@ -114,20 +117,22 @@ impl Mutator {
 
     /// The header of what was loaded or swapped out is loaded too: the operation is done, with the name that it tells.
     #[inline(always)]
-    pub(super) fn name_referent(&mut self, place: Place, header: u64)
-        requires { IsBusy self.old (MutatorPhase.Referent place) }
+    pub(super) fn name_referent(&mut self, op: Op, place: Place, header: u64)
+        requires op { op ≡ op_now self.old }
+        requires busy { IsBusy self.old (MutatorPhase.Referent place) }
         ensures { self.new ≡ next_in self.old (MutatorPhase.Referent place) header }
     {
         match unpack(header) {
-            Header::Object(name, _) => self.reply(found_reply(self.op(), Some(name))),
+            Header::Object(name, _) => self.reply(found_reply(op, Some(name))),
             Header::Moved(_) => self.reply_seldom(Reply::Bad),
         }
     }
 
     /// The store or swap in progress goes on.
     #[inline(always)]
-    pub(super) fn step_store(&mut self, old: u64)
-        requires { (store : Storing) × (self.old.phase ≡ MutatorPhase.Storing store) }
+    pub(super) fn step_store(&mut self, op: Op, old: u64)
+        requires op { op ≡ op_now self.old }
+        requires storing { (store : Storing) × (self.old.phase ≡ MutatorPhase.Storing store) }
         ensures { (store : Storing) → self.old.phase ≡ MutatorPhase.Storing store → self.new ≡ next_in self.old (MutatorPhase.Storing store) old }
     {
         let MutatorPhase::Storing(machine) = &mut self.phase else {
@@ -142,7 +147,7 @@ impl Mutator {
             }
             Some(StoreEnd::Swapped { .. }) => {
                 self.phase = MutatorPhase::Ready;
-                self.hold_reference(old);
+                self.hold_reference(op, old);
             }
             Some(StoreEnd::LogFull) => self.phase = MutatorPhase::GivingUp(Stop::LogFull),
         }

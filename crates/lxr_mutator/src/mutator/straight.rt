@@ -1,8 +1,8 @@
 //! Units straight through: from each step the code goes on to what can follow it, and asks for no phase that it knows.
 //!
 //! Each step is the one that `next` tells, and what was found is taken by the stage that `take` would call. Lines are drawn
-//! seldom, and by the general way. Where the caller knows the operation, so does each stage, which says it again once its word was
-//! loaded: no stage asks memory which operation it is.
+//! seldom, and by the general way. Where the caller knows the operation, so does each stage, and says it again before a step that
+//! asks for it: no stage asks memory which operation it is. A stage that may end the unit tells whether the unit goes on.
 ghost use Rattle.std.specs.Prelude.{◌≡◌, ℕ};
 ghost use Rattle.lxr_layout.specs.declared.Place.{Place};
 ghost use Rattle.lxr_graph.specs.declared.Op.TheVariants as op;
@@ -59,8 +59,11 @@ impl Mutator {
         ensures holds { S.holds table.now steps.new self.new }
     {
         if let MutatorPhase::Ready = self.phase {
-            self.load_pause_word(op, steps, table);
-            self.operate(op, steps, table);
+            if self.load_pause_word(op, steps, table) {
+                self.operate(op, steps, table);
+            } else {
+                self.finish(steps, table);
+            }
         } else {
             self.do_unit_by_phases(steps, table);
         }
@@ -189,8 +192,11 @@ impl Mutator {
         ensures holds { S.holds table.now steps.new self.new }
     {
         if let MutatorPhase::Ready = self.phase {
-            self.load_pause_word(op, steps, table);
-            self.reach_datum(op, steps, table);
+            if self.load_pause_word(op, steps, table) {
+                self.reach_datum(op, steps, table);
+            } else {
+                self.finish(steps, table);
+            }
         } else {
             self.do_unit_by_phases(steps, table);
         }
@@ -206,8 +212,11 @@ impl Mutator {
     {
         match self.phase {
             MutatorPhase::Base { base } => {
-                self.load_header(op, base, steps, table);
-                self.access_datum(steps, table);
+                if self.load_header(op, base, steps, table) {
+                    self.access_datum(steps, table);
+                } else {
+                    self.finish(steps, table);
+                }
             }
             _ => self.finish(steps, table),
         }
@@ -222,8 +231,11 @@ impl Mutator {
         ensures holds { S.holds table.now steps.new self.new }
     {
         if let MutatorPhase::Ready = self.phase {
-            self.load_pause_word(op, steps, table);
-            self.reach_reference(op, steps, table);
+            if self.load_pause_word(op, steps, table) {
+                self.reach_reference(op, steps, table);
+            } else {
+                self.finish(steps, table);
+            }
         } else {
             self.do_unit_by_phases(steps, table);
         }
@@ -239,8 +251,11 @@ impl Mutator {
     {
         match self.phase {
             MutatorPhase::Base { base } => {
-                self.load_header(op, base, steps, table);
-                self.access_reference(op, steps, table);
+                if self.load_header(op, base, steps, table) {
+                    self.access_reference(op, steps, table);
+                } else {
+                    self.finish(steps, table);
+                }
             }
             _ => self.finish(steps, table),
         }
@@ -256,8 +271,11 @@ impl Mutator {
     {
         match self.phase {
             MutatorPhase::Base { base } => {
-                self.load_header(op, base, steps, table);
-                self.access(op, steps, table);
+                if self.load_header(op, base, steps, table) {
+                    self.access(op, steps, table);
+                } else {
+                    self.finish(steps, table);
+                }
             }
             MutatorPhase::Wiping { .. } => self.make_object(op, steps, table),
             _ => self.finish(steps, table),
@@ -448,9 +466,9 @@ impl Mutator {
         do_unit(self, steps, table);
     }
 
-    /// Loads the pause word.
+    /// Loads the pause word. Whether the unit goes on: both ways end it, but the code of the one knows what the unit does next.
     #[inline(always)]
-    fn load_pause_word<T, S: Steps<Mutator, T>>(&mut self, op: Op, steps: &mut S, table: &T)
+    fn load_pause_word<T, S: Steps<Mutator, T>>(&mut self, op: Op, steps: &mut S, table: &T) -> bool
         requires op { op ≡ op_now self.old }
         requires busy { (self.old.phase ≡ MutatorPhase.Ready) × IsMutator self.old }
         requires holds { S.holds table.now steps.old self.old }
@@ -458,11 +476,10 @@ impl Mutator {
         ensures holds { S.holds table.now steps.new self.new }
     {
         let word = steps.step(table, self);
-        self.recall(op);
-        self.look_at_pause_word(word);
+        self.look_at_pause_word(op, word)
     }
 
-    /// Loads the header of the base.
+    /// Loads the header of the base. Whether the unit goes on.
     #[inline(always)]
     fn load_header<T, S: Steps<Mutator, T>>(
         &mut self,
@@ -470,7 +487,7 @@ impl Mutator {
         base: Place,
         steps: &mut S,
         table: &T,
-    )
+    ) -> bool
         requires op { op ≡ op_now self.old }
         requires busy { IsBusy self.old (MutatorPhase.Base base) }
         requires holds { S.holds table.now steps.old self.old }
@@ -479,7 +496,7 @@ impl Mutator {
     {
         let header = steps.step(table, self);
         self.recall(op);
-        self.reach_field(base, header);
+        self.reach_field(base, header)
     }
 
     /// Loads the reference that `load` asks for.
@@ -498,8 +515,7 @@ impl Mutator {
         ensures holds { S.holds table.now steps.new self.new }
     {
         let reference = steps.step(table, self);
-        self.recall(op);
-        self.keep_reference(base, reference);
+        self.keep_reference(op, base, reference);
     }
 
     /// Loads the header of what was loaded or swapped out.
@@ -512,8 +528,7 @@ impl Mutator {
         ensures holds { S.holds table.now steps.new self.new }
     {
         let header = steps.step(table, self);
-        self.recall(op);
-        self.name_referent(place, header);
+        self.name_referent(op, place, header);
     }
 
     /// Loads the data word that `get` asks for.
@@ -562,8 +577,7 @@ impl Mutator {
         ensures holds { S.holds table.now steps.new self.new }
     {
         let old = steps.step(table, self);
-        self.recall(op);
-        self.step_store(old);
+        self.step_store(op, old);
     }
 
     /// Stores 0 to a word of the new object.
@@ -601,7 +615,6 @@ impl Mutator {
     {
         self.recall(op);
         steps.step(table, self);
-        self.recall(op);
-        self.hand_out(place);
+        self.hand_out(op, place);
     }
 }

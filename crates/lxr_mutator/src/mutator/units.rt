@@ -44,7 +44,7 @@ impl Mutator {
         self.since += 1;
         if self.since >= self.every {
             self.phase = MutatorPhase::Finished;
-            self.end = Some(MutEnd::Turns);
+            end_turns(&mut self.end);
         } else {
             self.phase = MutatorPhase::Ready;
             self.end = Some(MutEnd::OpDone(reply));
@@ -96,16 +96,18 @@ impl Mutator {
         self.end = Some(MutEnd::Ended);
     }
 
-    /// The pause word was loaded: the unit ends where it was 1, and else its operation begins.
+    /// The pause word was loaded: the unit ends where it was 1, and else its operation begins. Whether the unit goes on.
     #[inline(always)]
-    pub(super) fn look_at_pause_word(&mut self, old: u64)
-        requires { self.old.phase ≡ MutatorPhase.Ready }
+    pub(super) fn look_at_pause_word(&mut self, op: Op, old: u64) -> bool
+        requires op { op ≡ op_now self.old }
+        requires phase { self.old.phase ≡ MutatorPhase.Ready }
         ensures { self.new ≡ after_in self.old MutatorPhase.Ready old }
     {
         if old == 1 {
             self.stop(MutEnd::Asked);
+            false
         } else {
-            self.begin(self.op());
+            self.begin(self.told_op(op))
         }
     }
 
@@ -146,7 +148,7 @@ impl Mutator {
         requires operation { length self.old.replies.items < length self.old.operations }
         ensures { self.new ≡ done_with self.old (asked_reply (op_now self.old)) }
     {
-        self.reply(asked_reply(self.op()));
+        self.reply(asked_reply(self.open_op()));
     }
 
     /// A pause was asked for, without which the unit can't go on: it ends.
@@ -159,16 +161,19 @@ impl Mutator {
         self.stop(end_by(stop));
     }
 
-    /// Begins an operation.
+    /// Begins an operation. Whether the unit goes on.
     #[inline(always)]
-    fn begin(&mut self, op: Op)
+    fn begin(&mut self, op: Op) -> bool
         requires phase { self.old.phase ≡ MutatorPhase.Ready }
         requires op { op ≡ op_now self.old }
         requires formed { IsFormedFor self.old.width op }
         ensures { self.new ≡ started self.old op }
     {
         match op {
-            Op::New { shape, .. } => self.place_object(shape),
+            Op::New { shape, .. } => {
+                self.place_object(shape);
+                true
+            }
             Op::Load { base, .. } => self.begin_at(self.register(base)),
             Op::Store { base, .. } => self.begin_at(self.register(base)),
             Op::Put { base, .. } => self.begin_at(self.register(base)),
@@ -178,24 +183,32 @@ impl Mutator {
             Op::Move { dest, source } => {
                 self.set_register(dest, self.register(source));
                 self.reply(Reply::Moved);
+                false
             }
             Op::Nil { dest } => {
                 self.set_register(dest, Place::NIL);
                 self.reply(Reply::Cleared);
+                false
             }
             Op::Same { left, right } => {
                 let same = self.register(left).0 == self.register(right).0;
                 self.reply(Reply::Same(same));
+                false
             }
-            Op::Pause => self.go_on(MutatorPhase::Asking),
-            Op::Collect => self.go_on(MutatorPhase::Asking),
-            Op::End => self.end_thread(),
+            Op::Pause | Op::Collect => {
+                self.go_on(MutatorPhase::Asking);
+                true
+            }
+            Op::End => {
+                self.end_thread();
+                false
+            }
         }
     }
 
-    /// Begins an operation on a base, which is nil or has a header to look at.
+    /// Begins an operation on a base, which is nil or has a header to look at. Whether the unit goes on.
     #[inline(always)]
-    fn begin_at(&mut self, base: Place)
+    fn begin_at(&mut self, base: Place) -> bool
         requires phase { self.old.phase ≡ MutatorPhase.Ready }
         requires operation { length self.old.replies.items < length self.old.operations }
         requires held { IsHeld base }
@@ -203,8 +216,10 @@ impl Mutator {
     {
         if base.0 == 0 {
             self.reply_seldom(Reply::Bad);
+            false
         } else {
             self.go_on(MutatorPhase::Base { base });
+            true
         }
     }
 }
@@ -222,18 +237,18 @@ impl Actor for Mutator {
             MutatorPhase::Finished => None,
             MutatorPhase::Base { base } => Some(Action::load(word_of(base))),
             MutatorPhase::Reference { base } => {
-                Some(Action::load(field_word(base, index_of(self.op()))))
+                Some(Action::load(field_word(base, index_of(self.open_op()))))
             }
             MutatorPhase::Referent { place } => Some(Action::load(word_of(place))),
             MutatorPhase::Datum { base, refs } => {
-                Some(Action::load(data_word(base, refs, self.op())))
+                Some(Action::load(data_word(base, refs, self.open_op())))
             }
             MutatorPhase::Putting { base, refs } => {
-                let op = self.op();
+                let op = self.open_op();
                 Some(Action::store(data_word(base, refs, op), value_of(op)))
             }
             MutatorPhase::Adding { base, refs } => {
-                let op = self.op();
+                let op = self.open_op();
                 Some(Action {
                     kind: Kindred::Add,
                     word: data_word(base, refs, op),
@@ -262,15 +277,19 @@ impl Actor for Mutator {
     #[inline(always)]
     fn take(&mut self, old: u64) {
         match self.phase {
-            MutatorPhase::Ready => self.look_at_pause_word(old),
+            MutatorPhase::Ready => {
+                self.look_at_pause_word(self.op(), old);
+            }
             MutatorPhase::Finished => {}
-            MutatorPhase::Base { base } => self.reach_field(base, old),
-            MutatorPhase::Reference { base } => self.keep_reference(base, old),
-            MutatorPhase::Referent { place } => self.name_referent(place, old),
+            MutatorPhase::Base { base } => {
+                self.reach_field(base, old);
+            }
+            MutatorPhase::Reference { base } => self.keep_reference(self.open_op(), base, old),
+            MutatorPhase::Referent { place } => self.name_referent(self.open_op(), place, old),
             MutatorPhase::Datum { .. } => self.tell_datum(old),
             MutatorPhase::Putting { .. } => self.end_put(),
             MutatorPhase::Adding { .. } => self.end_add(old),
-            MutatorPhase::Storing(_) => self.step_store(old),
+            MutatorPhase::Storing(_) => self.step_store(self.open_op(), old),
             MutatorPhase::DrawsRun => self.draw_run(old),
             MutatorPhase::RunNumber { number } => self.find_run(number, old),
             MutatorPhase::Run { number } => self.fill_run(number, old),
@@ -278,7 +297,7 @@ impl Actor for Mutator {
             MutatorPhase::BlockNumber { number } => self.find_block(number, old),
             MutatorPhase::Block { number } => self.fill_block(number, old),
             MutatorPhase::Wiping { place, next } => self.wipe_word(place, next),
-            MutatorPhase::Heading { place } => self.hand_out(place),
+            MutatorPhase::Heading { place } => self.hand_out(self.open_op(), place),
             MutatorPhase::Asking => self.end_asking(),
             MutatorPhase::GivingUp(stop) => self.give_up(stop),
         }
@@ -309,6 +328,15 @@ impl Actor for Mutator {
         self.append(op);
         true
     }
+}
+
+/// A unit ends with the last operation that its thread may do in this epoch. It is a call, since that is seldom.
+#[cold]
+#[inline(never)]
+fn end_turns(end: &mut Option<MutEnd>)
+    ensures { end.new ≡ Some MutEnd.Turns }
+{
+    *end = Some(MutEnd::Turns);
 }
 
 /// How a unit ends that gives up.

@@ -279,6 +279,7 @@ extern "C" {
     pub fn lxr_mutator_words_write(mutator: *mut Mutator, base: u32, first: u32, words: *const u64, count: usize) -> Code;
     pub fn lxr_mutator_pause(mutator: *mut Mutator) -> Code;
     pub fn lxr_mutator_collect(mutator: *mut Mutator) -> Code;
+    pub fn lxr_mutator_trim(mutator: *mut Mutator) -> Code;
 }
 
 pub const LXR_COUNT_ASKED: u32 = 12;
@@ -328,7 +329,11 @@ extern "C" {
     pub fn lxr_passes_close(heap: *mut Passes) -> Code;
     pub fn lxr_passes_resume(heap: *mut Passes) -> Code;
     pub fn lxr_passes_pause(heap: *mut Passes) -> Code;
+    pub fn lxr_passes_pause_and_trace(heap: *mut Passes) -> Code;
     pub fn lxr_passes_count(heap: *const Passes, what: u32, number: *mut u64) -> Code;
+    pub fn lxr_passes_trim(heap: *mut Passes) -> Code;
+    pub fn lxr_passes_trim_next(heap: *mut Passes, from: u32, block: *mut u32) -> Code;
+    pub fn lxr_passes_first_word(heap: *mut Passes, place: *mut *const u64) -> Code;
     pub fn lxr_station_leave(heap: *mut Passes, number: u32, station: *mut Station) -> Code;
     pub fn lxr_station_come_home(station: *mut Station) -> Code;
     pub fn lxr_station_close(station: *mut Station) -> Code;

@@ -1,15 +1,16 @@
-use Rattle.std.proofs.Common.{◌≡◌, ◌+◌, ◌-◌, ◌++◌, ◌∙◌, ap, arith, length, length-append, refl, subst, sym}
+use Rattle.std.proofs.Common.{◌≡◌, ◌≢◌, ℕ, ◌-◌, ◌<◌, ◌≤◌, ◌++◌, ap, arith, length, length-append, refl, subst, sym}
+use Rattle.lxr_image.specs.Settled.{StandsByLines}
 use Rattle.lxr_image.specs.Spaces.{tables_of}
 use Rattle.lxr_image.proofs.SpaceLemmas.{still_space}
-use Rattle.lxr_blocks.specs.Listing.{block_frees, joined, listed_frees, numbers_from, with_frees}
+use Rattle.lxr_blocks.specs.Listing.{block_frees, joined, numbers_from, with_frees}
 use Rattle.lxr_blocks.specs.States.{AreFreeBlocks, state_in}
 use Rattle.lxr_blocks.specs.declared.states.BlockState.TheVariants.{Free}
-use Rattle.lxr_blocks.proofs.InTurnLemmas.{frees_more, frees_none}
-use Rattle.lxr_blocks.proofs.ListingLemmas.{frees_over_free, frees_past_used, joined_none, length_numbers}
+use Rattle.lxr_blocks.proofs.InTurnLemmas.{frees_more, frees_none, frees_step, stands_where_listed, stood_where_listed}
+use Rattle.lxr_blocks.proofs.ListingLemmas.{joined_none, length_numbers}
 use Rattle.lxr_blocks.proofs.in_turn.list_frees.Goals as goal
 
-pub loop-block-init : goal.loop-block-init
-loop-block-init c =
+pub loop-at-init : goal.loop-at-init
+loop-at-init c =
     let none = joined_none (block_frees (tables_of c.args.space.now)) in
     record {
       space = c.requires;
@@ -17,58 +18,42 @@ loop-block-init c =
       frees = sym (ap length none);
       room = omega arith;
       within = omega arith;
+      noted = omega arith;
+      known = λ b over below. absurd (omega (arith, below));
     }
 
-pub loop-block-preserved : goal.loop-block-preserved
-loop-block-preserved c =
+pub next_noted-noted-requires-clause-known : goal.next_noted-noted-requires-clause-known
+next_noted-noted-requires-clause-known c b over below =
+    let before = c.loop-at.invariant in
+    stands_where_listed c.args.space.now c.loop-at.space (joined (block_frees (tables_of c.args.space.now)) c.loop-at.at) b before.turns (before.known b over below)
+
+pub loop-at-preserved : goal.loop-at-preserved
+loop-at-preserved c =
     let s = c.args.space.now in let t = tables_of s in
-    let before = c.loop-block.invariant in
-    let at = c.loop-block.at in let block = c.in-Some.block in
-    let next = c.in-Some.ensures.next in
-    let numbered = c.list_between-frees.ensures in
-    let passed = subst (λ u. AreFreeBlocks u at block) before.turns.tables next.passed in
-    let used = subst (λ u. state_in u block ≡ Free → ⊥) before.turns.tables next.used in
-    let over = frees_over_free t at block next.reached passed ∙ frees_past_used t block used in
-    let many = length-append (joined (block_frees t) at) (numbers_from at (block - at)) in
-    let len = length_numbers at (block - at) in
-    let all = ap length over in
-    let frees = before.frees in let told = numbered.count in let room = before.room in
-    let reached = next.reached in let end = next.within in
-    let same : c.loop-block.space.limits.blocks ≡ s.limits.blocks = ap (λ z. z.limits.blocks) before.turns.rest in
+    let before = c.loop-at.invariant in
+    let at = c.loop-at.at in let noted = c.next_noted-noted.result in let first = c.next_maybe_free-first.result in let end = c.end_of_free-end.result in let next = c.min-at.result in
+    let same : c.loop-at.space.limits.blocks ≡ s.limits.blocks = ap (λ z. z.limits.blocks) before.turns.rest in
+    let stands = c.next_noted-noted.ensures in let maybe = c.next_maybe_free-first.ensures in let behind = c.end_of_free-end.ensures in let numbered = c.list_between-frees.ensures in
+    let least = c.min-at.ensures in
+    let known : (b : ℕ) → at ≤ b → b < noted → StandsByLines t b = λ b over below.
+    stood_where_listed s c.loop-at.space (joined (block_frees t) at) b before.turns (stands.known b over below) in
+    let used : (b : ℕ) → at ≤ b → b < first → state_in t b ≢ Free = subst (λ u. (b : ℕ) → at ≤ b → b < first → state_in u b ≢ Free) before.turns.tables maybe.used in
+    let free : AreFreeBlocks t first end = subst (λ u. AreFreeBlocks u first end) before.turns.tables behind.free in
+    let last : end < c.loop-at.space.limits.blocks → state_in t end ≢ Free = subst (λ u. end < c.loop-at.space.limits.blocks → state_in u end ≢ Free) before.turns.tables behind.used in
+    let from = maybe.range in let to = behind.range in let ahead = stands.range in let room = before.room in let frees = before.frees in let told = numbered.count in
+    let past : (b : ℕ) → end ≤ b → b < next → state_in t b ≢ Free = λ b over below.
+    subst (λ n. state_in t n ≢ Free) (let z : end ≡ b = omega (arith, over, below, least) in z) (last (omega (arith, over, below, least, same))) in
+    let all : joined (block_frees t) at ++ numbers_from first (end - first) ≡ joined (block_frees t) next =
+    frees_step t at first end next from.0 used to.0 free (omega (arith, least, to, same)) past in
+    let many = length-append (joined (block_frees t) at) (numbers_from first (end - first)) in
+    let len = length_numbers first (end - first) in
+    let sum = ap length all in
     record {
-      space = still_space c.loop-block.space c.list_between-frees.new.space (with_frees (tables_of c.loop-block.space) c.loop-block.frees (numbers_from at (block - at))) before.space numbered.frees refl;
-      turns = frees_more s c.loop-block.space c.list_between-frees.new.space c.loop-block.frees (joined (block_frees t) at) (numbers_from at (block - at)) (joined (block_frees t) (block + 1)) before.turns before.frees over numbered.frees;
-      frees = omega (arith, many, len, all, frees, told);
-      room = omega (arith, told, room, reached);
-      within = omega (arith, end, same);
+      space = still_space c.loop-at.space c.list_between-frees.new.space (with_frees (tables_of c.loop-at.space) c.loop-at.frees (numbers_from first (end - first))) before.space numbered.frees refl;
+      turns = frees_more s c.loop-at.space c.list_between-frees.new.space c.loop-at.frees (joined (block_frees t) at) (numbers_from first (end - first)) (joined (block_frees t) next) before.turns before.frees all numbered.frees;
+      frees = omega (arith, many, len, sum, frees, told);
+      room = omega (arith, told, room, from, to, least, same);
+      within = omega (arith, least);
+      noted = omega (arith, ahead, same);
+      known = λ b over below. known b (omega (arith, over, least, from, to, same)) below;
     }
-
--- the blocks behind the last that isn't Free
-end_is : (c : goal.After-list_between) → c.loop-block.space.limits.blocks ≡ c.args.space.now.limits.blocks
-end_is c = ap (λ z. z.limits.blocks) c.loop-block.invariant.turns.rest
-
-last_free : (c : goal.After-list_between) → AreFreeBlocks (tables_of c.args.space.now) c.loop-block.at c.args.space.now.limits.blocks
-last_free c = subst (AreFreeBlocks (tables_of c.args.space.now) c.loop-block.at) (end_is c)
-    (subst (λ u. AreFreeBlocks u c.loop-block.at c.loop-block.space.limits.blocks) c.loop-block.invariant.turns.tables c.in_default.ensures.none)
-
-all_frees : (c : goal.After-list_between)
-    → joined (block_frees (tables_of c.args.space.now)) c.loop-block.at ++ numbers_from c.loop-block.at (c.loop-block.space.limits.blocks - c.loop-block.at) ≡ listed_frees (tables_of c.args.space.now) c.args.space.now.limits.blocks
-all_frees c =
-    ap (λ n. joined (block_frees (tables_of c.args.space.now)) c.loop-block.at ++ numbers_from c.loop-block.at (n - c.loop-block.at)) (end_is c)
-    ∙ frees_over_free (tables_of c.args.space.now) c.loop-block.at c.args.space.now.limits.blocks c.loop-block.invariant.within (last_free c)
-
-pub returns-clause-frees : goal.returns-clause-frees
-returns-clause-frees c =
-    let s = c.args.space.now in let t = tables_of s in
-    frees_more s c.loop-block.space c.list_between.new.space c.loop-block.frees (joined (block_frees t) c.loop-block.at) (numbers_from c.loop-block.at (c.loop-block.space.limits.blocks - c.loop-block.at))
-    (listed_frees t s.limits.blocks) c.loop-block.invariant.turns c.loop-block.invariant.frees (all_frees c) c.list_between.ensures.frees
-
-pub returns-clause-count : goal.returns-clause-count
-returns-clause-count c =
-    let t = tables_of c.args.space.now in
-    let blocks = c.loop-block.space.limits.blocks in
-    let many = length-append (joined (block_frees t) c.loop-block.at) (numbers_from c.loop-block.at (blocks - c.loop-block.at)) in
-    let len = length_numbers c.loop-block.at (blocks - c.loop-block.at) in
-    let all = ap length (all_frees c) in
-    let count = c.loop-block.invariant.frees in let told = c.list_between.ensures.count in
-    omega (arith, many, len, all, count, told)

@@ -1,11 +1,10 @@
-use Rattle.std.proofs.Common.{◌≡◌, ◌+◌, ◌++◌, ◌∙◌, ap, arith, length, length-append, refl, subst, sym}
+use Rattle.std.proofs.Common.{◌≡◌, ℕ, ◌+◌, ◌<◌, ◌≤◌, [], ◌++◌, ◌∙◌, ap, arith, length, length-append, refl, subst, sym}
 use Rattle.lxr_image.specs.Runs.{with_runs}
 use Rattle.lxr_image.specs.Spaces.{Turns, tables_of}
 use Rattle.lxr_image.proofs.SpaceLemmas.{still_space}
 use Rattle.lxr_blocks.specs.InTurn.{round_from, runs_from}
 use Rattle.lxr_blocks.specs.Listing.{block_runs}
-use Rattle.lxr_blocks.specs.States.{AreFreeBlocks}
-use Rattle.lxr_blocks.proofs.InTurnLemmas.{runs_more, runs_over_free_ahead}
+use Rattle.lxr_blocks.proofs.InTurnLemmas.{runs_more, runs_over_none}
 use Rattle.lxr_blocks.proofs.ListingLemmas.{joined_more, joined_none, runs_none}
 use Rattle.lxr_blocks.proofs.in_turn.list_round.Goals as goal
 
@@ -22,8 +21,8 @@ loop-passed-init c =
       within = omega arith;
     }
 
-pub loop-passed-preserved-then-free-eq0 : goal.loop-passed-preserved-then-free-eq0
-loop-passed-preserved-then-free-eq0 c =
+pub loop-passed-preserved-then-skipped-eq0 : goal.loop-passed-preserved-then-skipped-eq0
+loop-passed-preserved-then-skipped-eq0 c =
     let s = c.args.space.now in let t = tables_of s in
     let before = c.loop-passed.invariant in
     let block = c.block_after-block.result in
@@ -47,12 +46,12 @@ pub loop-passed-preserved : goal.loop-passed-preserved
 loop-passed-preserved c =
     let s = c.args.space.now in let t = tables_of s in
     let before = c.loop-passed.invariant in
-    let ahead = c.free_ahead-free.ensures in let many = c.free_ahead-free.result in
+    let ahead = c.without_runs-skipped.ensures in let many = c.without_runs-skipped.result in
     let same : c.loop-passed.space.limits.blocks ≡ s.limits.blocks = ap (λ z. z.limits.blocks) before.turns.rest in
     let few = ahead.few in let end = ahead.within in let within = before.within in let room = before.room in
-    let free = subst (λ u. AreFreeBlocks u c.block_after-block.result (c.block_after-block.result + many)) before.turns.tables ahead.free in
+    let none : (b : ℕ) → c.block_after-block.result ≤ b → b < c.block_after-block.result + many → block_runs t b ≡ [] = subst (λ u. (b : ℕ) → c.block_after-block.result ≤ b → b < c.block_after-block.result + many → block_runs u b ≡ []) before.turns.tables ahead.none in
     let over : runs_from t s.limits.blocks c.args.from (c.loop-passed.passed + many) ≡ runs_from t s.limits.blocks c.args.from c.loop-passed.passed =
-    runs_over_free_ahead t s.limits.blocks c.args.from c.loop-passed.passed many c.block_after-block.result c.requires.from (omega (arith, few, within)) c.block_after-block.ensures.around (omega (arith, end, same)) free in
+    runs_over_none t s.limits.blocks c.args.from c.loop-passed.passed many c.block_after-block.result c.requires.from (omega (arith, few, within)) c.block_after-block.ensures.around (omega (arith, end, same)) none in
     record {
       space = before.space;
       turns = subst (λ xs. Turns s c.loop-passed.space (with_runs t 0 xs)) (sym over) before.turns;

@@ -10,12 +10,12 @@ loop-entry-init c = λ answer all. all
 pub loop-entry-preserved : goal.loop-entry-preserved
 loop-entry-preserved c = λ answer rest.
     c.loop-entry.invariant answer (subst (λ es. AllAsk c.args.registers es answer) (sym (drop_more c.args.entries.now c.loop-entry.entry-index (record { op = 0; a = 0; b = 0; c = 0; word = 0 }) (omega arith)))
-    (inl ((c.in-Ok.field-0, sym c.in-Ok.ensures.asked), rest)))
+    (inl (c.in-Ok.ensures.asks, rest)))
 
 pub returns-in-Err : goal.returns-in-Err
 returns-in-Err c =
     c.loop-entry.invariant (Err c.in-Err.code) (subst (λ es. AllAsk c.args.registers es (Err c.in-Err.code)) (sym (drop_more c.args.entries.now c.loop-entry.entry-index (record { op = 0; a = 0; b = 0; c = 0; word = 0 }) (omega arith)))
-    (inr (c.in-Err.code, sym c.in-Err.ensures.asked, refl)))
+    (inr (c.in-Err.code, c.in-Err.ensures.refused, refl)))
 
 pub returns : goal.returns
 returns c = c.loop-entry.invariant (Ok tt) (subst (λ es. AllAsk c.args.registers es (Ok tt)) (sym (drop_all c.loop-entry.entry-index c.args.entries.now c.loop-entry-test.false)) refl)

@@ -30,7 +30,7 @@ returns-then-not-log_is_short-clause-pauses c = λ h is.
       history = k;
       pauses = inr (long, refl, refl);
       holds = holds;
-      ready = long_may k c.args.base c.args.first c.args.count long has;
+      ready = long_may c.settle.new.self.heap k c.args.base c.args.first c.args.count long has;
     }
 
 pub returns-then-not-log_is_short-clause-registers : goal.returns-then-not-log_is_short-clause-registers
@@ -59,7 +59,7 @@ returns-clause-pauses c = λ h is.
       history = behind_pause c.pause.new.self k;
       pauses = inl ((c.log_is_short.ensures k holds.heap has).0 c.if-not-log_is_short.false, paused, refl);
       holds = paused_host c.settle.new.self c.pause.new.self k false holds paused;
-      ready = paused_may c.pause.new.self k c.args.base c.args.first c.args.count (references_few c.settle.new.self.heap k holds.heap c.args.base (c.args.first + c.args.count) c.ranges.base.fits has) has;
+      ready = paused_may c.pause.new.self k c.args.base c.args.first c.args.count paused.heap.holds (references_few c.settle.new.self.heap k holds.heap c.args.base (c.args.first + c.args.count) c.ranges.base.fits has) has;
     }
 
 pub returns-clause-registers : goal.returns-clause-registers

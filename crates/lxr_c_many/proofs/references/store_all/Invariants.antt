@@ -12,5 +12,5 @@ invariant-loop-i l = record {
   serving : IsServing l.heap;
   registers : registers_in l.heap ≡ registers_in l.initial.heap;
   known : IsKnown l.heap.heap.space 1 l.object;
-  stored : (h : List LargeItem) → IsHeapOf l.initial.heap.heap h → MayBeStored h l.object.register l.first (length l.sources) → Stored l.initial.heap h l.object.register l.first l.sources l.i l.heap;
+  stored : (h : List LargeItem) → IsHeapOf l.initial.heap.heap h → MayBeStored l.initial.heap.heap h l.object.register l.first (length l.sources) → Stored l.initial.heap h l.object.register l.first l.sources l.i l.heap;
 }

@@ -25,10 +25,10 @@ store_all-requires-clause-there c = ∥∥₁_elim c.requires.ready le_prop (λ 
 pub store_all-requires-clause-ready : goal.store_all-requires-clause-ready
 store_all-requires-clause-ready c = ∥∥₁_elim c.requires.ready ∥∥₁_prop (λ of.
     let (h, is, may) = of in
-    ∣ (h, is, subst (λ base. MayBeStored h base c.args.first (length c.args.sources.now)) (sym c.in-Some.ensures.known.1) may) ∣₁)
+    ∣ (h, is, subst (λ base. MayBeStored c.args.heap.now.heap h base c.args.first (length c.args.sources.now)) (sym c.in-Some.ensures.known.1) may) ∣₁)
 
 pub returns-clause-follows : goal.returns-clause-follows
 returns-clause-follows c = λ h is may.
     let same = c.in-Some.ensures.known.1 in
     subst (λ base. Follows c.args.heap.now h c.store_all.new.heap (newest_first (store_of base) c.args.first c.args.sources.now)) same
-    (c.store_all.ensures.follows h is (subst (λ base. MayBeStored h base c.args.first (length c.args.sources.now)) (sym same) may))
+    (c.store_all.ensures.follows h is (subst (λ base. MayBeStored c.args.heap.now.heap h base c.args.first (length c.args.sources.now)) (sym same) may))

@@ -14,3 +14,6 @@ returns-in_default-clause-writes c = λ h is. writes_nil c.args.heap.now h c.arg
 pub returns-in-Data-clause-writes : goal.returns-in-Data-clause-writes
 returns-in-Data-clause-writes c = λ h is.
     writes_data c.args.heap.now c.write.new.heap h c.args.base c.args.first c.args.from.now c.write.result (in_data (large_state h) c.args.base _ (ap Some (sym c.in-Data.is) ∙ sym c.in-Some.is ∙ c.form_of.ensures.form h is)) (c.write.ensures.writes h is)
+
+pub write_body-requires-clause-there : goal.write_body-requires-clause-there
+write_body-requires-clause-there c = λ h is. ap Some (sym c.in-Body.is) ∙ sym c.in-Some.is ∙ c.form_of.ensures.form h is

@@ -9,7 +9,7 @@ use Rattle.lxr_one_pause.specs.Pausing.{CanPause, Pauses}
 use Rattle.lxr_heap.specs.Holding.{abstract_of}
 use Rattle.lxr_heap.specs.Pausing.{PausesHeap}
 use Rattle.lxr_heap.proofs.HeapLemmas.{one_thread, standing}
-use Rattle.lxr_heap.proofs.PausingLemmas.{PausesAnywhere, can_pause, fits, numbers_behind, once, pauses_heap, recounted, with_dead}
+use Rattle.lxr_heap.proofs.PausingLemmas.{PausesAnywhere, can_pause, fits, numbers_behind, once, pauses_heap, recounted, rooms, with_dead}
 use Rattle.lxr_heap.proofs.pausing.pause.Goals as goal
 
 pub recount-requires : goal.recount-requires
@@ -41,6 +41,15 @@ report_gone-requires-clause-room c =
     let pauses = recounted x.space c.one_pause.new.space c.recount.new.self c.asked-ask.result c.untraced_pace-pace.result c.recount.ensures c.one_pause.ensures.pauses in
     let (at', p) = pauses (abstract_of x h is.at) (can_pause x h is c.requires.number) in
     fits x h is c.one_pause.new.space c.args.collect c.untraced_pace-pace.result c.untraced_pace-pace.ensures.apart at'
+    (subst (λ a. Pauses x.space c.one_pause.new.space (abstract_of x h is.at) at' a c.untraced_pace-pace.result) c.asked-ask.ensures p)
+
+pub report_gone-requires-clause-rooms : goal.report_gone-requires-clause-rooms
+report_gone-requires-clause-rooms c =
+    let (h, is) = c.requires.holds in
+    let x = c.args.heap.now in
+    let pauses = recounted x.space c.one_pause.new.space c.recount.new.self c.asked-ask.result c.untraced_pace-pace.result c.recount.ensures c.one_pause.ensures.pauses in
+    let (at', p) = pauses (abstract_of x h is.at) (can_pause x h is c.requires.number) in
+    rooms x h is c.one_pause.new.space c.args.collect c.untraced_pace-pace.result c.untraced_pace-pace.ensures.apart at'
     (subst (λ a. Pauses x.space c.one_pause.new.space (abstract_of x h is.at) at' a c.untraced_pace-pace.result) c.asked-ask.ensures p)
 
 pub left_after-heap-requires-clause-few : goal.left_after-heap-requires-clause-few
@@ -79,11 +88,11 @@ returns-clause-pauses c = λ h is.
     (λ i. record x {
       space = record one { report = record one.report { dead = sym c.report_gone.ensures.dead i } };
       bodies = sym bodies i;
-      gone = sym c.report_gone.ensures.gone i;
+      gone = c.report_gone.new.gone;
       made_before = x.made;
       left = left;
       fresh = c.args.collect;
     })
-    (pauses_heap x h is one left c.args.collect c.untraced_pace-pace.result c.untraced_pace-pace.ensures.apart
+    (pauses_heap x h is one left c.args.collect c.untraced_pace-pace.result c.report_gone.new.gone c.report_gone.ensures.gone.0 c.report_gone.ensures.gone.1 c.untraced_pace-pace.ensures.apart
     (subst (λ a. PausesAnywhere x h one a c.untraced_pace-pace.result) c.asked-ask.ensures
     (λ at stands. pauses (abstract_of x h at) (can_pause x h (standing x h is at stands) c.requires.number))) numbers)

@@ -21,7 +21,7 @@ pause-requires g c =
 
 pub returns-in_err-pause-clause-err : goal.returns-in_err-pause-clause-err
 returns-in_err-pause-clause-err g c = OnErr-always c.from_residual.result (λ task same rest h p wants.
-    let made = wanted_made task.terms c.args.heap.now h p.holds p.none_gone c.args.op c.args.collect c.requires.op p.terms wants in
+    let made = wanted_made task.terms c.args.heap.now h p.holds p.none_gone c.args.op c.args.collect c.requires.op p.terms p.log wants in
     cut_before task c.args.op rest c.args.heap.now (g.O.Sink.written c.args.output.now) c.args.replies.now.items h p c.args.collect made c.pause.new.heap (c.pause.ensures.pauses h p.holds) (g.O.Sink.written c.pause.new.output)
     (subst (λ b. AppendsFront (g.O.Sink.written c.args.output.now) (g.O.Sink.written c.pause.new.output) (report_text b (report_of c.pause.new.heap.space.report))) (sym same) c.in_err-pause.ensures.err))
 
@@ -47,7 +47,7 @@ act_behind-requires-clause-ready g c =
 pub returns-clause-ok : goal.returns-clause-ok
 returns-clause-ok g c = λ task same rest h p wants.
     let paused = c.pause.ensures.pauses h p.holds in
-    let made = wanted_made task.terms c.args.heap.now h p.holds p.none_gone c.args.op c.args.collect c.requires.op p.terms wants in (
+    let made = wanted_made task.terms c.args.heap.now h p.holds p.none_gone c.args.op c.args.collect c.requires.op p.terms p.log wants in (
       _,
       came_behind task c.args.op rest c.args.heap.now (g.O.Sink.written c.args.output.now) c.args.replies.now.items h p c.args.collect made c.pause.new.heap paused c.act_behind.new.heap (g.O.Sink.written c.pause.new.output) c.act_behind.result
           c.requires.op (c.act_behind.ensures _ (wanted_wants_none c.args.heap.now c.pause.new.heap h c.args.op c.args.collect wants paused))

@@ -33,28 +33,28 @@ told_pause task space seen h asked report m paused began served told o o1 w w1 h
 pub pause-requires-clause-due : goal.pause-requires-clause-due
 pause-requires-clause-due g c =
     let (task, paced, earlier, h, m, ran) = c.requires.ran in
-    let are = found c.args.actors.now.items _ _ c.have_ended-ended.result c.shall_collect-collects.result c.ask_of-ask.result c.deref.ensures.value c.deref-2.ensures.value c.have_ended-ended.ensures c.shall_collect-collects.ensures c.ask_of-ask.ensures in
-    (task, h, m, pause_due task c.args.pace paced c.args.space.now (g.W.Watch.seen c.args.watch.now) earlier c.args.actors.now.items h m ran c.have_ended-ended.result c.shall_collect-collects.result c.ask_of-ask.result are)
+    let are = found c.args.actors.now.items _ _ c.have_ended-ended.result c.shall_collect-collects.result _ c.ask_of-ask.result c.deref.ensures.value c.deref-2.ensures.value c.have_ended-ended.ensures c.shall_collect-collects.ensures c.ask_of-ask.ensures in
+    (task, h, m, pause_due task c.args.pace paced c.args.space.now (g.W.Watch.seen c.args.watch.now) earlier c.args.actors.now.items h m ran c.have_ended-ended.result c.shall_collect-collects.result c.args.begins c.ask_of-ask.result are)
 
 pub pause-requires-clause-counts : goal.pause-requires-clause-counts
 pause-requires-clause-counts g c =
     let (task, paced, earlier, h, m, ran) = c.requires.ran in
-    let are = found c.args.actors.now.items _ _ c.have_ended-ended.result c.shall_collect-collects.result c.ask_of-ask.result c.deref.ensures.value c.deref-2.ensures.value c.have_ended-ended.ensures c.shall_collect-collects.ensures c.ask_of-ask.ensures in
-    pause_fits task c.args.pace paced c.args.space.now (g.W.Watch.seen c.args.watch.now) earlier c.args.actors.now.items h m ran c.have_ended-ended.result c.shall_collect-collects.result c.ask_of-ask.result are
+    let are = found c.args.actors.now.items _ _ c.have_ended-ended.result c.shall_collect-collects.result _ c.ask_of-ask.result c.deref.ensures.value c.deref-2.ensures.value c.have_ended-ended.ensures c.shall_collect-collects.ensures c.ask_of-ask.ensures in
+    pause_fits task c.args.pace paced c.args.space.now (g.W.Watch.seen c.args.watch.now) earlier c.args.actors.now.items h m ran c.have_ended-ended.result c.shall_collect-collects.result c.args.begins c.ask_of-ask.result are
 
 pub returns-in_err-pause-clause-err : goal.returns-in_err-pause-clause-err
 returns-in_err-pause-clause-err g c = passed_on _ c.from_residual.result c.in_err-pause.field-0.0 c.from_residual.ensures.1 (λ task paced earlier h m ran.
-    let are = found c.args.actors.now.items _ _ c.have_ended-ended.result c.shall_collect-collects.result c.ask_of-ask.result c.deref.ensures.value c.deref-2.ensures.value c.have_ended-ended.ensures c.shall_collect-collects.ensures c.ask_of-ask.ensures in
+    let are = found c.args.actors.now.items _ _ c.have_ended-ended.result c.shall_collect-collects.result _ c.ask_of-ask.result c.deref.ensures.value c.deref-2.ensures.value c.have_ended-ended.ensures c.shall_collect-collects.ensures c.ask_of-ask.ensures in
     cut_off (λ j l r. Fails g.O.Observer.began g.O.Observer.served g.O.Observer.told g.O.Observer.failed c.args.observer.now c.args.output.now j c.in_err-pause.field-0.0 c.pause.new.output l r) task c.pause.new.space (g.W.Watch.seen c.pause.new.watch) h h c.ask_of-ask.result
-    (c.pause.ensures.paused task h m (pause_due task c.args.pace paced c.args.space.now (g.W.Watch.seen c.args.watch.now) earlier c.args.actors.now.items h m ran c.have_ended-ended.result c.shall_collect-collects.result c.ask_of-ask.result are))
+    (c.pause.ensures.paused task h m (pause_due task c.args.pace paced c.args.space.now (g.W.Watch.seen c.args.watch.now) earlier c.args.actors.now.items h m ran c.have_ended-ended.result c.shall_collect-collects.result c.args.begins c.ask_of-ask.result are))
     (record { observer = c.args.observer.now; output = c.args.output.now; tells = nothing; fails = c.in_err-pause.ensures.failed }))
 
 pub returns-then-ended-clause-ok : goal.returns-then-ended-clause-ok
 returns-then-ended-clause-ok g c = λ task paced earlier h m ran.
-    let are = found c.args.actors.now.items _ _ c.have_ended-ended.result c.shall_collect-collects.result c.ask_of-ask.result c.deref.ensures.value c.deref-2.ensures.value c.have_ended-ended.ensures c.shall_collect-collects.ensures c.ask_of-ask.ensures in
-    let (report, m', paused) = c.pause.ensures.paused task h m (pause_due task c.args.pace paced c.args.space.now (g.W.Watch.seen c.args.watch.now) earlier c.args.actors.now.items h m ran c.have_ended-ended.result c.shall_collect-collects.result c.ask_of-ask.result are) in
+    let are = found c.args.actors.now.items _ _ c.have_ended-ended.result c.shall_collect-collects.result _ c.ask_of-ask.result c.deref.ensures.value c.deref-2.ensures.value c.have_ended-ended.ensures c.shall_collect-collects.ensures c.ask_of-ask.ensures in
+    let (report, m', paused) = c.pause.ensures.paused task h m (pause_due task c.args.pace paced c.args.space.now (g.W.Watch.seen c.args.watch.now) earlier c.args.actors.now.items h m ran c.have_ended-ended.result c.shall_collect-collects.result c.args.begins c.ask_of-ask.result are) in
     let first = told_pause task c.pause.new.space (g.W.Watch.seen c.pause.new.watch) h c.ask_of-ask.result report m' paused g.O.Observer.began g.O.Observer.served g.O.Observer.told c.args.observer.now c.pause.new.observer c.args.output.now c.pause.new.output c.in_ok-pause.ensures.told in
-    all_done task c.args.pace paced c.args.space.now (g.W.Watch.seen c.args.watch.now) earlier c.args.actors.now.items h m ran c.have_ended-ended.result c.shall_collect-collects.result c.ask_of-ask.result are c.pause.new.space (g.W.Watch.seen c.pause.new.watch) report m' paused c.pause.ensures.made (λ j k. Tells g.O.Observer.began g.O.Observer.served g.O.Observer.told c.args.observer.now c.args.output.now j c.pause.new.observer c.pause.new.output k) first c.if-ended.true
+    all_done task c.args.pace paced c.args.space.now (g.W.Watch.seen c.args.watch.now) earlier c.args.actors.now.items h m ran c.have_ended-ended.result c.shall_collect-collects.result c.args.begins c.ask_of-ask.result are c.pause.new.space (g.W.Watch.seen c.pause.new.watch) report m' paused c.pause.ensures.made (λ j k. Tells g.O.Observer.began g.O.Observer.served g.O.Observer.told c.args.observer.now c.args.output.now j c.pause.new.observer c.pause.new.output k) first c.if-ended.true
 
 pub returns-then-ended-clause-room : goal.returns-then-ended-clause-room
 returns-then-ended-clause-room g c = c.in_ok-pause.ensures.room
@@ -62,10 +62,10 @@ returns-then-ended-clause-room g c = c.in_ok-pause.ensures.room
 pub answer_waiting-requires-clause-serving : goal.answer_waiting-requires-clause-serving
 answer_waiting-requires-clause-serving g c =
     let (task, paced, earlier, h, m, ran) = c.requires.ran in
-    let are = found c.args.actors.now.items _ _ c.have_ended-ended.result c.shall_collect-collects.result c.ask_of-ask.result c.deref.ensures.value c.deref-2.ensures.value c.have_ended-ended.ensures c.shall_collect-collects.ensures c.ask_of-ask.ensures in
-    let (report, m', paused) = c.pause.ensures.paused task h m (pause_due task c.args.pace paced c.args.space.now (g.W.Watch.seen c.args.watch.now) earlier c.args.actors.now.items h m ran c.have_ended-ended.result c.shall_collect-collects.result c.ask_of-ask.result are) in
+    let are = found c.args.actors.now.items _ _ c.have_ended-ended.result c.shall_collect-collects.result _ c.ask_of-ask.result c.deref.ensures.value c.deref-2.ensures.value c.have_ended-ended.ensures c.shall_collect-collects.ensures c.ask_of-ask.ensures in
+    let (report, m', paused) = c.pause.ensures.paused task h m (pause_due task c.args.pace paced c.args.space.now (g.W.Watch.seen c.args.watch.now) earlier c.args.actors.now.items h m ran c.have_ended-ended.result c.shall_collect-collects.result c.args.begins c.ask_of-ask.result are) in
     subst (CanServeAll c.args.pace c.pause.new.space (g.W.Watch.seen c.pause.new.watch) c.shall_collect-collects.result) (sym c.deref_mut.ensures.value)
-    (task, paced, Pause report ∷ h, m', begun task c.args.pace paced c.args.space.now (g.W.Watch.seen c.args.watch.now) earlier c.args.actors.now.items h m ran c.have_ended-ended.result c.shall_collect-collects.result c.ask_of-ask.result are c.pause.new.space (g.W.Watch.seen c.pause.new.watch) report m' paused c.pause.ensures.made c.if-ended.false, ran.actors_rest.helpers)
+    (task, paced, Pause report ∷ h, m', begun task c.args.pace paced c.args.space.now (g.W.Watch.seen c.args.watch.now) earlier c.args.actors.now.items h m ran c.have_ended-ended.result c.shall_collect-collects.result c.args.begins c.ask_of-ask.result are c.pause.new.space (g.W.Watch.seen c.pause.new.watch) report m' paused c.pause.ensures.made c.if-ended.false, ran.actors_rest.helpers)
 
 pub answer_waiting-requires-clause-room : goal.answer_waiting-requires-clause-room
 answer_waiting-requires-clause-room g c = c.in_ok-pause.ensures.room
@@ -73,8 +73,8 @@ answer_waiting-requires-clause-room g c = c.in_ok-pause.ensures.room
 pub answer_waiting-requires-clause-few : goal.answer_waiting-requires-clause-few
 answer_waiting-requires-clause-few g c =
     let (task, paced, earlier, h, m, ran) = c.requires.ran in
-    let are = found c.args.actors.now.items _ _ c.have_ended-ended.result c.shall_collect-collects.result c.ask_of-ask.result c.deref.ensures.value c.deref-2.ensures.value c.have_ended-ended.ensures c.shall_collect-collects.ensures c.ask_of-ask.ensures in
-    subst (λ (actors : List AnyActor). c.pause.new.space.pauses ≤ 2 * done_of (mutators_in actors) + 1) (sym c.deref_mut.ensures.value) (pauses_few task c.args.pace paced c.args.space.now (g.W.Watch.seen c.args.watch.now) earlier c.args.actors.now.items h m ran c.have_ended-ended.result c.shall_collect-collects.result c.ask_of-ask.result are c.pause.new.space.pauses c.pause.ensures.pauses)
+    let are = found c.args.actors.now.items _ _ c.have_ended-ended.result c.shall_collect-collects.result _ c.ask_of-ask.result c.deref.ensures.value c.deref-2.ensures.value c.have_ended-ended.ensures c.shall_collect-collects.ensures c.ask_of-ask.ensures in
+    subst (λ (actors : List AnyActor). c.pause.new.space.pauses ≤ 2 * done_of (mutators_in actors) + 1) (sym c.deref_mut.ensures.value) (pauses_few task c.args.pace paced c.args.space.now (g.W.Watch.seen c.args.watch.now) earlier c.args.actors.now.items h m ran c.have_ended-ended.result c.shall_collect-collects.result c.args.begins c.ask_of-ask.result are c.pause.new.space.pauses c.pause.ensures.pauses)
 
 pub answer_waiting-requires-clause-listed : goal.answer_waiting-requires-clause-listed
 answer_waiting-requires-clause-listed g c = subst (λ b. TellsWanted b c.pause.new.space.report) (sym (c.pause.ensures.wants c.pause.new.space.report.kind)) c.pause.ensures.listed
@@ -84,9 +84,9 @@ returns-in_err-answer_waiting-clause-listed g c = subst (λ b. TellsWanted b c.a
 
 pub returns-in_err-answer_waiting-clause-err : goal.returns-in_err-answer_waiting-clause-err
 returns-in_err-answer_waiting-clause-err g c = passed_on _ c.from_residual-in_err-answer_waiting.result c.in_err-answer_waiting.field-0.0 c.from_residual-in_err-answer_waiting.ensures.1 (λ task paced earlier h m ran.
-    let are = found c.args.actors.now.items _ _ c.have_ended-ended.result c.shall_collect-collects.result c.ask_of-ask.result c.deref.ensures.value c.deref-2.ensures.value c.have_ended-ended.ensures c.shall_collect-collects.ensures c.ask_of-ask.ensures in
-    let (report, m', paused) = c.pause.ensures.paused task h m (pause_due task c.args.pace paced c.args.space.now (g.W.Watch.seen c.args.watch.now) earlier c.args.actors.now.items h m ran c.have_ended-ended.result c.shall_collect-collects.result c.ask_of-ask.result are) in
-    let begins = begun task c.args.pace paced c.args.space.now (g.W.Watch.seen c.args.watch.now) earlier c.args.actors.now.items h m ran c.have_ended-ended.result c.shall_collect-collects.result c.ask_of-ask.result are c.pause.new.space (g.W.Watch.seen c.pause.new.watch) report m' paused c.pause.ensures.made c.if-ended.false in
+    let are = found c.args.actors.now.items _ _ c.have_ended-ended.result c.shall_collect-collects.result _ c.ask_of-ask.result c.deref.ensures.value c.deref-2.ensures.value c.have_ended-ended.ensures c.shall_collect-collects.ensures c.ask_of-ask.ensures in
+    let (report, m', paused) = c.pause.ensures.paused task h m (pause_due task c.args.pace paced c.args.space.now (g.W.Watch.seen c.args.watch.now) earlier c.args.actors.now.items h m ran c.have_ended-ended.result c.shall_collect-collects.result c.args.begins c.ask_of-ask.result are) in
+    let begins = begun task c.args.pace paced c.args.space.now (g.W.Watch.seen c.args.watch.now) earlier c.args.actors.now.items h m ran c.have_ended-ended.result c.shall_collect-collects.result c.args.begins c.ask_of-ask.result are c.pause.new.space (g.W.Watch.seen c.pause.new.watch) report m' paused c.pause.ensures.made c.if-ended.false in
     let first = told_pause task c.pause.new.space (g.W.Watch.seen c.pause.new.watch) h c.ask_of-ask.result report m' paused g.O.Observer.began g.O.Observer.served g.O.Observer.told c.args.observer.now c.pause.new.observer c.args.output.now c.pause.new.output c.in_ok-pause.ensures.told in
     let cut = subst (λ (actors : List AnyActor). AllAreCutOff (λ j l r. Fails g.O.Observer.began g.O.Observer.served g.O.Observer.told g.O.Observer.failed c.pause.new.observer c.pause.new.output j c.in_err-answer_waiting.field-0.0 c.answer_waiting.new.output l r) c.args.pace c.pause.new.space (g.W.Watch.seen c.pause.new.watch) c.shall_collect-collects.result (mutators_in actors) c.answer_waiting.new.space (g.W.Watch.seen c.answer_waiting.new.watch)) c.deref_mut.ensures.value c.in_err-answer_waiting.ensures.err task paced (Pause report ∷ h) m' begins in
     record {
@@ -101,24 +101,24 @@ returns-in_err-answer_waiting-clause-err g c = passed_on _ c.from_residual-in_er
 pub list_next-requires : goal.list_next-requires
 list_next-requires g c =
     let (task, paced, earlier, h, m, ran) = c.requires.ran in
-    let are = found c.args.actors.now.items _ _ c.have_ended-ended.result c.shall_collect-collects.result c.ask_of-ask.result c.deref.ensures.value c.deref-2.ensures.value c.have_ended-ended.ensures c.shall_collect-collects.ensures c.ask_of-ask.ensures in
-    let (report, m', paused) = c.pause.ensures.paused task h m (pause_due task c.args.pace paced c.args.space.now (g.W.Watch.seen c.args.watch.now) earlier c.args.actors.now.items h m ran c.have_ended-ended.result c.shall_collect-collects.result c.ask_of-ask.result are) in
-    let begins = begun task c.args.pace paced c.args.space.now (g.W.Watch.seen c.args.watch.now) earlier c.args.actors.now.items h m ran c.have_ended-ended.result c.shall_collect-collects.result c.ask_of-ask.result are c.pause.new.space (g.W.Watch.seen c.pause.new.watch) report m' paused c.pause.ensures.made c.if-ended.false in
+    let are = found c.args.actors.now.items _ _ c.have_ended-ended.result c.shall_collect-collects.result _ c.ask_of-ask.result c.deref.ensures.value c.deref-2.ensures.value c.have_ended-ended.ensures c.shall_collect-collects.ensures c.ask_of-ask.ensures in
+    let (report, m', paused) = c.pause.ensures.paused task h m (pause_due task c.args.pace paced c.args.space.now (g.W.Watch.seen c.args.watch.now) earlier c.args.actors.now.items h m ran c.have_ended-ended.result c.shall_collect-collects.result c.args.begins c.ask_of-ask.result are) in
+    let begins = begun task c.args.pace paced c.args.space.now (g.W.Watch.seen c.args.watch.now) earlier c.args.actors.now.items h m ran c.have_ended-ended.result c.shall_collect-collects.result c.args.begins c.ask_of-ask.result are c.pause.new.space (g.W.Watch.seen c.pause.new.watch) report m' paused c.pause.ensures.made c.if-ended.false in
     let (collected, served, k, m'', serving, answers, tells) = subst (λ (actors : List AnyActor). AllAreAnswered (λ j l. Tells g.O.Observer.began g.O.Observer.served g.O.Observer.told c.pause.new.observer c.pause.new.output j c.answer_waiting.new.observer c.answer_waiting.new.output l) c.args.pace c.pause.new.space (g.W.Watch.seen c.pause.new.watch) c.shall_collect-collects.result (mutators_in actors) c.answer_waiting.new.space (g.W.Watch.seen c.answer_waiting.new.watch) (mutators_in c.answer_waiting.new.actors)) c.deref_mut.ensures.value c.in_ok-answer_waiting.ensures.ok task paced (Pause report ∷ h) m' begins in
     (m'', serving.between)
 
 pub returns-clause-ok : goal.returns-clause-ok
 returns-clause-ok g c = λ task paced earlier h m ran.
-    let are = found c.args.actors.now.items _ _ c.have_ended-ended.result c.shall_collect-collects.result c.ask_of-ask.result c.deref.ensures.value c.deref-2.ensures.value c.have_ended-ended.ensures c.shall_collect-collects.ensures c.ask_of-ask.ensures in
-    let (report, m', paused) = c.pause.ensures.paused task h m (pause_due task c.args.pace paced c.args.space.now (g.W.Watch.seen c.args.watch.now) earlier c.args.actors.now.items h m ran c.have_ended-ended.result c.shall_collect-collects.result c.ask_of-ask.result are) in
-    let begins = begun task c.args.pace paced c.args.space.now (g.W.Watch.seen c.args.watch.now) earlier c.args.actors.now.items h m ran c.have_ended-ended.result c.shall_collect-collects.result c.ask_of-ask.result are c.pause.new.space (g.W.Watch.seen c.pause.new.watch) report m' paused c.pause.ensures.made c.if-ended.false in
+    let are = found c.args.actors.now.items _ _ c.have_ended-ended.result c.shall_collect-collects.result _ c.ask_of-ask.result c.deref.ensures.value c.deref-2.ensures.value c.have_ended-ended.ensures c.shall_collect-collects.ensures c.ask_of-ask.ensures in
+    let (report, m', paused) = c.pause.ensures.paused task h m (pause_due task c.args.pace paced c.args.space.now (g.W.Watch.seen c.args.watch.now) earlier c.args.actors.now.items h m ran c.have_ended-ended.result c.shall_collect-collects.result c.args.begins c.ask_of-ask.result are) in
+    let begins = begun task c.args.pace paced c.args.space.now (g.W.Watch.seen c.args.watch.now) earlier c.args.actors.now.items h m ran c.have_ended-ended.result c.shall_collect-collects.result c.args.begins c.ask_of-ask.result are c.pause.new.space (g.W.Watch.seen c.pause.new.watch) report m' paused c.pause.ensures.made c.if-ended.false in
     let first = told_pause task c.pause.new.space (g.W.Watch.seen c.pause.new.watch) h c.ask_of-ask.result report m' paused g.O.Observer.began g.O.Observer.served g.O.Observer.told c.args.observer.now c.pause.new.observer c.args.output.now c.pause.new.output c.in_ok-pause.ensures.told in
     let (collected, served, k, m'', serving, answers, tells) = subst (λ (actors : List AnyActor). AllAreAnswered (λ j l. Tells g.O.Observer.began g.O.Observer.served g.O.Observer.told c.pause.new.observer c.pause.new.output j c.answer_waiting.new.observer c.answer_waiting.new.output l) c.args.pace c.pause.new.space (g.W.Watch.seen c.pause.new.watch) c.shall_collect-collects.result (mutators_in actors) c.answer_waiting.new.space (g.W.Watch.seen c.answer_waiting.new.watch) (mutators_in c.answer_waiting.new.actors)) c.deref_mut.ensures.value c.in_ok-answer_waiting.ensures.ok task paced (Pause report ∷ h) m' begins in
     let keeps = subst (λ actors. KeepsHelpers actors c.answer_waiting.new.actors) c.deref_mut.ensures.value c.in_ok-answer_waiting.ensures.helpers in
-    let many = answered_many task c.args.pace paced c.args.space.now (g.W.Watch.seen c.args.watch.now) earlier c.args.actors.now.items h m ran c.have_ended-ended.result c.shall_collect-collects.result c.ask_of-ask.result are c.answer_waiting.new.space (g.W.Watch.seen c.answer_waiting.new.watch) c.answer_waiting.new.actors c.pause.new.space.pauses (length (mutators_in c.answer_waiting.new.actors)) collected served k m'' serving keeps in
+    let many = answered_many task c.args.pace paced c.args.space.now (g.W.Watch.seen c.args.watch.now) earlier c.args.actors.now.items h m ran c.have_ended-ended.result c.shall_collect-collects.result c.args.begins c.ask_of-ask.result are c.answer_waiting.new.space (g.W.Watch.seen c.answer_waiting.new.watch) c.answer_waiting.new.actors c.pause.new.space.pauses (length (mutators_in c.answer_waiting.new.actors)) collected served k m'' serving keeps in
     let whole = with_items_is c.args.actors.now c.answer_waiting.new.actors (many ∙ ap length (sym c.deref_mut.ensures.value) ∙ c.deref_mut.ensures.len) in
-    subst (λ answered. IsNextDue (λ before after. Lists c.args.to_list.now before after c.list_next.result) (λ j k. Tells g.O.Observer.began g.O.Observer.served g.O.Observer.told c.args.observer.now c.args.output.now j c.answer_waiting.new.observer c.answer_waiting.new.output k) task c.args.space.now c.list_next.new.space (g.W.Watch.seen c.answer_waiting.new.watch) earlier c.args.actors.now.items answered h) (sym whole)
-    (goes_on task c.args.pace paced c.args.space.now (g.W.Watch.seen c.args.watch.now) earlier c.args.actors.now.items h m ran c.have_ended-ended.result c.shall_collect-collects.result c.ask_of-ask.result are c.pause.new.space (g.W.Watch.seen c.pause.new.watch) report m' paused c.pause.ensures.made c.if-ended.false c.pause.ensures.pauses c.answer_waiting.new.space c.list_next.new.space (g.W.Watch.seen c.answer_waiting.new.watch) c.answer_waiting.new.actors collected served k m'' serving answers keeps
+    subst (λ answered. IsNextDue c.args.begins (λ before after. Lists c.args.to_list.now before after c.list_next.result) (λ j k. Tells g.O.Observer.began g.O.Observer.served g.O.Observer.told c.args.observer.now c.args.output.now j c.answer_waiting.new.observer c.answer_waiting.new.output k) task c.args.space.now c.list_next.new.space (g.W.Watch.seen c.answer_waiting.new.watch) earlier c.args.actors.now.items answered h) (sym whole)
+    (goes_on task c.args.pace paced c.args.space.now (g.W.Watch.seen c.args.watch.now) earlier c.args.actors.now.items h m ran c.have_ended-ended.result c.shall_collect-collects.result c.args.begins c.ask_of-ask.result are c.pause.new.space (g.W.Watch.seen c.pause.new.watch) report m' paused c.pause.ensures.made c.if-ended.false c.pause.ensures.pauses c.answer_waiting.new.space c.list_next.new.space (g.W.Watch.seen c.answer_waiting.new.watch) c.answer_waiting.new.actors collected served k m'' serving answers keeps
     (record {
       between = c.list_next.ensures.between m'' serving.between;
       listed = c.list_next.ensures.listed.listed;

@@ -30,7 +30,7 @@ returns-in_default-clause-err g c = λ task with_options (h, m, amid, drawn, rep
     lost_at task c.args.space.now c.make_epoch.new.space (g.O.Sink.written c.args.output.now) (g.W.Watch.seen c.args.watch.now) c.args.actors.now.items h m amid c.in_default.ensures.err
 
 pub follow_epoch-followed-requires-clause-pace : goal.follow_epoch-followed-requires-clause-pace
-follow_epoch-followed-requires-clause-pace g c = subst IsPace (sym c.pace_of.ensures) (record { trace = c.requires.range.trace; within = c.requires.range.within })
+follow_epoch-followed-requires-clause-pace g c = subst IsPace (sym c.pace_of.ensures) (record { trace = c.requires.range.trace.1; within = c.requires.range.within })
 
 pub follow_epoch-followed-requires-clause-ran : goal.follow_epoch-followed-requires-clause-ran
 follow_epoch-followed-requires-clause-ran g c =

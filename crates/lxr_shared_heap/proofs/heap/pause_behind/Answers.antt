@@ -24,42 +24,43 @@ pub renew_where_due-requires : goal.renew_where_due-requires
 renew_where_due-requires g c =
     let (script, before, calls, m, ran) = c.requires.made in
     let more : c.rest.result ≡ false = cc in
-    let rested = subst (HasRested (run_of c.args.settings script) calls c.args.actors.items c.rest.new.space c.rest.new.actors.items) more (c.rest.ensures.rests script before calls m ran) in (
+    let rested = subst (HasRested c.args.begins (run_of c.args.settings script) calls c.args.actors.items c.rest.new.space c.rest.new.actors.items) more (c.rest.ensures.rests script before calls m ran) in (
       c.args.settings,
       script,
       rested.history,
       rested.stands.0,
       subst (λ xs. StandsIdle c.args.settings script c.rest.new.space xs rested.history rested.stands.0 (not c.some_waits-idle.result)) (sym c.deref_mut.ensures.value)
-          (idle_stands c.args.settings script calls c.args.actors.items c.rest.new.space c.rest.new.actors.items rested ran.actors_rest.mutators c.requires.live c.some_waits-idle.result (c.some_waits-idle.ensures ∙ ap (list_any waits) c.deref.ensures.value)),
+          (idle_stands c.args.begins c.args.settings script calls c.args.actors.items c.rest.new.space c.rest.new.actors.items rested ran.actors_rest.mutators c.requires.live c.some_waits-idle.result (c.some_waits-idle.ensures ∙ ap (list_any waits) c.deref.ensures.value)),
     )
 
 pub of-requires : goal.of-requires
 of-requires g c =
     let (script, before, calls, m, ran) = c.requires.made in
     let ended : c.rest.result ≡ true = cc in
-    let rested = subst (HasRested (run_of c.args.settings script) calls c.args.actors.items c.rest.new.space c.rest.new.actors.items) ended (c.rest.ensures.rests script before calls m ran) in
+    let rested = subst (HasRested c.args.begins (run_of c.args.settings script) calls c.args.actors.items c.rest.new.space c.rest.new.actors.items) ended (c.rest.ensures.rests script before calls m ran) in
     rested.stands.left.1.between.safepoint.holds.space
 
 pub of-requires-else-rest : goal.of-requires-else-rest
 of-requires-else-rest g c =
     let (script, before, calls, m, ran) = c.requires.made in
     let more : c.rest.result ≡ false = cc in
-    let rested = subst (HasRested (run_of c.args.settings script) calls c.args.actors.items c.rest.new.space c.rest.new.actors.items) more (c.rest.ensures.rests script before calls m ran) in
+    let rested = subst (HasRested c.args.begins (run_of c.args.settings script) calls c.args.actors.items c.rest.new.space c.rest.new.actors.items) more (c.rest.ensures.rests script before calls m ran) in
     let idle = not c.some_waits-idle.result in
     let space = c.rest.new.space in
     let actors = c.rest.new.actors.items in
-    let stands = idle_stands c.args.settings script calls c.args.actors.items space actors rested ran.actors_rest.mutators c.requires.live c.some_waits-idle.result (c.some_waits-idle.ensures ∙ ap (list_any waits) c.deref.ensures.value) in
+    let stands = idle_stands c.args.begins c.args.settings script calls c.args.actors.items space actors rested ran.actors_rest.mutators c.requires.live c.some_waits-idle.result (c.some_waits-idle.ensures ∙ ap (list_any waits) c.deref.ensures.value) in
     let renews = subst (λ xs. RenewsWhere (idle && is_renewal_due space xs) space xs idle c.renew_where_due.new.space c.renew_where_due.new.actors) c.deref_mut.ensures.value c.renew_where_due.ensures.renews in
     renewed_space (idle && is_renewal_due space actors) c.args.settings script rested.history rested.stands.0 space actors idle c.renew_where_due.new.space c.renew_where_due.new.actors stands renews
 
 pub returns-then-rest-clause-rests : goal.returns-then-rest-clause-rests
 returns-then-rest-clause-rests g c = λ script before calls m ran newest. (
     let ended : c.rest.result ≡ true = cc in
-    let rested = subst (HasRested (run_of c.args.settings script) calls c.args.actors.items c.rest.new.space c.rest.new.actors.items) ended (c.rest.ensures.rests script before calls m ran) in
-    subst (λ (s : Space). ComesToRest c.args.settings script calls (mutators_in c.args.actors.items) (stage.Ended s c.rest.new.actors)) (sym c.of.ensures)
+    let rested = subst (HasRested c.args.begins (run_of c.args.settings script) calls c.args.actors.items c.rest.new.space c.rest.new.actors.items) ended (c.rest.ensures.rests script before calls m ran) in
+    subst (λ (s : Space). ComesToRest c.args.begins c.args.settings script calls (mutators_in c.args.actors.items) (stage.Ended s c.rest.new.actors)) (sym c.of.ensures)
     (record {
       report = rested.report;
       collects = rested.collects;
+      traces = rested.traces;
       answered = mutators_in c.rest.new.actors.items;
       history = rested.history;
       behind = rested.behind;
@@ -79,24 +80,25 @@ returns-then-rest-clause-rests g c = λ script before calls m ran newest. (
 pub returns-else-rest-clause-rests : goal.returns-else-rest-clause-rests
 returns-else-rest-clause-rests g c = λ script before calls m ran newest. (
     let more : c.rest.result ≡ false = cc in
-    let rested = subst (HasRested (run_of c.args.settings script) calls c.args.actors.items c.rest.new.space c.rest.new.actors.items) more (c.rest.ensures.rests script before calls m ran) in
+    let rested = subst (HasRested c.args.begins (run_of c.args.settings script) calls c.args.actors.items c.rest.new.space c.rest.new.actors.items) more (c.rest.ensures.rests script before calls m ran) in
     let idle = not c.some_waits-idle.result in
     let space = c.rest.new.space in
     let actors = c.rest.new.actors.items in
-    let stands = idle_stands c.args.settings script calls c.args.actors.items space actors rested ran.actors_rest.mutators c.requires.live c.some_waits-idle.result (c.some_waits-idle.ensures ∙ ap (list_any waits) c.deref.ensures.value) in
+    let stands = idle_stands c.args.begins c.args.settings script calls c.args.actors.items space actors rested ran.actors_rest.mutators c.requires.live c.some_waits-idle.result (c.some_waits-idle.ensures ∙ ap (list_any waits) c.deref.ensures.value) in
     let renews = subst (λ xs. RenewsWhere (idle && is_renewal_due space xs) space xs idle c.renew_where_due.new.space c.renew_where_due.new.actors) c.deref_mut.ensures.value c.renew_where_due.ensures.renews in
     let due = idle && is_renewal_due space actors in
     let now = newest_behind (run_of c.args.settings script) rested.report calls (mutators_in c.args.actors.items) space actors rested.history rested.stands.0 rested.behind rested.stands.1 newest in
     let tests = c.some_waits-idle.ensures ∙ ap (list_any waits) c.deref.ensures.value in
-    let anew = stands_renewed due (due_told c.args.settings script calls c.args.actors.items space actors rested c.some_waits-idle.result tests)
-    (due_tested c.args.settings script calls c.args.actors.items space actors rested c.some_waits-idle.result tests) c.args.settings script rested.history rested.stands.0 space actors idle c.renew_where_due.new.space c.renew_where_due.new.actors stands now renews
+    let anew = stands_renewed due (due_told c.args.begins c.args.settings script calls c.args.actors.items space actors rested c.some_waits-idle.result tests)
+    (due_tested c.args.begins c.args.settings script calls c.args.actors.items space actors rested c.some_waits-idle.result tests) c.args.settings script rested.history rested.stands.0 space actors idle c.renew_where_due.new.space c.renew_where_due.new.actors stands now renews
     (unrenewed_behind (run_of c.args.settings script) rested.report calls (mutators_in c.args.actors.items) (mutators_in actors) rested.history rested.behind) c.rest.ensures.untold in
     let many = renewed_many due c.args.settings script rested.history rested.stands.0 space actors idle c.renew_where_due.new.space c.renew_where_due.new.actors stands renews in
     let same = with_items_is c.rest.new.actors c.renew_where_due.new.actors (many ∙ ap length (sym c.deref_mut.ensures.value) ∙ c.deref_mut.ensures.len) in
-    subst (λ (s : Space). ComesToRest c.args.settings script calls (mutators_in c.args.actors.items) (stage.Between s (with_items c.rest.new.actors c.renew_where_due.new.actors))) (sym c.of-else-rest.ensures)
+    subst (λ (s : Space). ComesToRest c.args.begins c.args.settings script calls (mutators_in c.args.actors.items) (stage.Between s (with_items c.rest.new.actors c.renew_where_due.new.actors))) (sym c.of-else-rest.ensures)
     (record {
       report = rested.report;
       collects = rested.collects;
+      traces = rested.traces;
       answered = mutators_in actors;
       history = rested.history;
       behind = rested.behind;

@@ -17,8 +17,8 @@ returns-clause-untold g c = c.follow_epoch.ensures.listed
 
 pub returns-clause-rests : goal.returns-clause-rests
 returns-clause-rests g c =
-    rests_each c.args.to_list.now c.follow_epoch.new.to_list _ c.args.settings c.pace.result c.args.space.now c.follow_epoch.new.space c.args.actors.now.items c.follow_epoch.new.actors.items c.in-Ok.ended c.pace.ensures c.in-Ok.ensures.ok
+    rests_each c.args.begins c.args.to_list.now c.follow_epoch.new.to_list _ c.args.settings c.pace.result c.args.space.now c.follow_epoch.new.space c.args.actors.now.items c.follow_epoch.new.actors.items c.in-Ok.ended c.pace.ensures c.in-Ok.ensures.ok
 
 pub returns-clause-lists : goal.returns-clause-lists
 returns-clause-lists g c =
-    lists_behind c.args.to_list.now c.follow_epoch.new.to_list _ c.args.settings c.pace.result c.args.space.now c.follow_epoch.new.space c.args.actors.now.items c.follow_epoch.new.actors.items c.in-Ok.ended c.pace.ensures c.in-Ok.ensures.ok c.in-Ok.ensures.kept c.requires.made
+    lists_behind c.args.begins c.args.to_list.now c.follow_epoch.new.to_list _ c.args.settings c.pace.result c.args.space.now c.follow_epoch.new.space c.args.actors.now.items c.follow_epoch.new.actors.items c.in-Ok.ended c.pace.ensures c.in-Ok.ensures.ok c.in-Ok.ensures.kept c.requires.made

@@ -1,7 +1,3 @@
-use Rattle.std.proofs.Common.{◌≡◌, ◌∙◌, ap}
-use Rattle.lxr_mutator.specs.declared.phases.MutatorPhase.TheVariants as phase
-use Rattle.lxr_mutator.specs.Mutating.{Mutating}
-use Rattle.lxr_mutator.specs.Steps.{next_in}
 use Rattle.lxr_mutator.proofs.StraightLemmas.{store_acts, store_staged}
 use Rattle.lxr_mutator.proofs.mutator.Mutator.go_on_storing.Goals as goal
 
@@ -12,6 +8,4 @@ pub returns-clause-step : goal.returns-clause-step
 returns-clause-step g c =
     let store = c.requires.busy.0 in
     let busy = c.requires.busy.1 in
-    let here : c.recall.new.self.phase ≡ phase.Storing store = ap (λ (m : Mutating). m.phase) c.recall.ensures ∙ busy.phase in
-    store_staged g.S.Steps.did c.args.self.now _ _ _ store c.step-old.result busy
-    (c.step_store.ensures store here ∙ ap (λ (m : Mutating). next_in m (phase.Storing store) c.step-old.result) c.recall.ensures) c.step-old.ensures.did
+    store_staged g.S.Steps.did c.args.self.now _ _ _ store c.step-old.result busy (c.step_store.ensures store busy.phase) c.step-old.ensures.did

@@ -11,5 +11,8 @@ pub access_reference-requires-clause-op : goal.access_reference-requires-clause-
 access_reference-requires-clause-op g c =
     still_asked g.S.Steps.did _ _ _ _ c.args.op (c.requires.op (ap (λ m. rests_in m.phase) (sym c.self.view_is) ∙ ap rests_in c.in-Base.is)) c.load_header.ensures.step
 
-pub returns-in-Base-clause-rest : goal.returns-in-Base-clause-rest
-returns-in-Base-clause-rest g c = goes_on (ap (λ m. rests_in m.phase) (sym c.self.view_is) ∙ ap rests_in c.in-Base.is) c.load_header.ensures.step c.access_reference.ensures.rest
+pub returns-then-load_header-clause-rest : goal.returns-then-load_header-clause-rest
+returns-then-load_header-clause-rest g c = goes_on (ap (λ m. rests_in m.phase) (sym c.self.view_is) ∙ ap rests_in c.in-Base.is) c.load_header.ensures.step c.access_reference.ensures.rest
+
+pub returns-else-load_header-clause-rest : goal.returns-else-load_header-clause-rest
+returns-else-load_header-clause-rest g c = goes_on (ap (λ m. rests_in m.phase) (sym c.self.view_is) ∙ ap rests_in c.in-Base.is) c.load_header.ensures.step c.finish.ensures.rest

@@ -6,7 +6,7 @@ use Rattle.lxr_shared_heap.proofs.heap.Heap.pause_by.Goals as goal
 pub invariant_of-self : goal.invariant_of-self
 invariant_of-self w c =
     let (script, h, of) = c.self.invariant in
-    paused_some c.paused-stage.result.1 _ _ (pauses_alone _ c.paused-stage.result.1 _ _ c.paused-stage.ensures) script h
+    paused_some c.args.begins c.paused-stage.result.1 _ _ (pauses_alone c.args.begins _ c.paused-stage.result.1 _ _ c.paused-stage.ensures) script h
     (subst (λ s. IsHeapOf script h (record { settings = c.self.inside.settings; stage = s; to_list = c.self.inside.to_list })) (sym c.replace-stage.ensures.value) of)
 
 pub paused-stage-requires-clause-handed : goal.paused-stage-requires-clause-handed

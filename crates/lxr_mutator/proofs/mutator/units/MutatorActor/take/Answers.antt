@@ -1,4 +1,4 @@
-use Rattle.std.proofs.Common.{◌≡◌, ℕ, ◌<◌, subst, sym}
+use Rattle.std.proofs.Common.{◌≡◌, ◌∙◌, ℕ, ◌<◌, ap, subst, sym}
 use Rattle.lxr_actor.specs.Machine.{to_go}
 use Rattle.lxr_mutator.specs.declared.phases.MutatorPhase.{MutatorPhase}
 use Rattle.lxr_mutator.specs.declared.phases.MutatorPhase.TheVariants as phase
@@ -19,7 +19,7 @@ pub returns-in-Ready-clause-nearer : goal.returns-in-Ready-clause-nearer
 returns-in-Ready-clause-nearer c =
     let m = c.args.self.now in
     let sound = subst IsMutator c.self.view_is c.self.invariant.sound in
-    let is : m.phase ≡ phase.Ready = cc in
+    let is : m.phase ≡ phase.Ready = ap (λ (x : Mutating). x.phase) (sym c.self.view_is) ∙ c.in-Ready.is in
     nearer m c.look_at_pause_word.new.self phase.Ready c.args.old is c.look_at_pause_word.ensures (ready_nearer m c.args.old (few_words m sound))
 
 pub returns-in-Storing-clause-nearer : goal.returns-in-Storing-clause-nearer
@@ -27,5 +27,5 @@ returns-in-Storing-clause-nearer c =
     let m = c.args.self.now in
     let s = c.in-Storing.field-0 in
     let sound = subst IsMutator c.self.view_is c.self.invariant.sound in
-    let is : m.phase ≡ phase.Storing s = cc in
+    let is : m.phase ≡ phase.Storing s = ap (λ (x : Mutating). x.phase) (sym c.self.view_is) ∙ c.in-Storing.is in
     nearer m c.step_store.new.self (phase.Storing s) c.args.old is (c.step_store.ensures s is) (storing_nearer m s c.args.old (store_goes_on m s sound is))

@@ -1,0 +1,31 @@
+use Rattle.std.proofs.Common.{arith}
+use Rattle.lxr_graph.specs.declared.Op.TheVariants as op
+use Rattle.lxr_large_model.specs.declared.LargeOp.TheVariants as large_op
+use Rattle.lxr_c_heap.specs.Hosting.{registers_in}
+use Rattle.lxr_c_heap.proofs.RegisterLemmas.{few_registers, known, replied_keeps}
+use Rattle.lxr_c_many.proofs.EntryLemmas.{asks_move, move_fits, replied_entry, within}
+use Rattle.lxr_c_many.proofs.entries.move_at.Goals as goal
+
+pub overflow_cast-dest : goal.overflow_cast-dest
+overflow_cast-dest c =
+    let named = (move_fits (registers_in c.args.heap.now) c.args.entry.now c.requires.op c.requires.asks).0 in
+    let few = few_registers c.args.heap.now c.requires.serving.holds in
+    omega (arith, named, few)
+
+pub overflow_cast-source : goal.overflow_cast-source
+overflow_cast-source c =
+    let named = (move_fits (registers_in c.args.heap.now) c.args.entry.now c.requires.op c.requires.asks).1 in
+    let few = few_registers c.args.heap.now c.requires.serving.holds in
+    omega (arith, named, few)
+
+pub reply-requires-clause-op : goal.reply-requires-clause-op
+reply-requires-clause-op c = ((within c.args.heap.now _ c.requires.serving ((move_fits (registers_in c.args.heap.now) c.args.entry.now c.requires.op c.requires.asks).0), within c.args.heap.now _ c.requires.serving ((move_fits (registers_in c.args.heap.now) c.args.entry.now c.requires.op c.requires.asks).1)), tt)
+
+pub returns-clause-registers : goal.returns-clause-registers
+returns-clause-registers c = known c.args.heap.now _ _ c.requires.serving.holds (λ h is. replied_keeps c.args.heap.now c.reply.new.self h _ c.reply.result (c.reply.ensures.replies h is.heap))
+
+pub returns-clause-performs : goal.returns-clause-performs
+returns-clause-performs c =
+    let x = c.args.heap.now in
+    let e = c.args.entry.now in
+    replied_entry x e c.reply.new.self (large_op.Small (op.Move e.a e.b)) c.reply.result c.told_by.result c.tell.new.entry c.tell.result (asks_move (registers_in x) e c.requires.op (move_fits (registers_in c.args.heap.now) c.args.entry.now c.requires.op c.requires.asks).0 (move_fits (registers_in c.args.heap.now) c.args.entry.now c.requires.op c.requires.asks).1) c.reply.ensures.replies c.told_by.ensures c.tell.ensures.told c.tell.ensures.code
