@@ -29,7 +29,7 @@ pub struct Terms {
     pub every: u32,
     /// How many references are recorded before a store waits for a pause.
     pub log: u32,
-    /// Every how many pauses a trace begins.
+    /// Every how many pauses a trace begins; 0 where any pause may begin one.
     pub trace: u32,
     /// Within how many pauses a trace ends.
     pub within: u32,
