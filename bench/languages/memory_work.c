@@ -1,17 +1,14 @@
 /*
  * The heap on the proved collector, as memory_lxr.c has it, with slices as WORK in the environment says: 0 for none. SPDX: MIT OR Apache-2.0
  */
-#include <lxr.h>
+#include <stdint.h>
 #include <stdlib.h>
 
-static lxr_settings settings_by_environment(uint32_t blocks, uint32_t body_blocks) {
+static uint32_t units_by_environment(void) {
     const char *work = getenv("WORK");
-    lxr_settings settings = LXR_SETTINGS(blocks, body_blocks);
-    if (work) settings.work = (uint32_t)strtoul(work, NULL, 10);
-    return settings;
+    return work ? (uint32_t)strtoul(work, NULL, 10) : 32;
 }
 
-#undef LXR_SETTINGS
-#define LXR_SETTINGS(blocks, body_blocks) settings_by_environment(blocks, body_blocks)
+#define UNITS_OF_WORK units_by_environment()
 
 #include "memory_lxr.c"

@@ -13,7 +13,8 @@
  * parameter was written, and the call may be made again; only pauses may have been made, by calls that make objects, which look for room,
  * and by those that store, whose log may be full. lxr_apply alone may have done a part of what it was to do, and says how much in `*done`; and
  * lxr_array_fill and lxr_array_copy, where a host has made a root of parts itself a part.
- * Where several codes would do, the least of them is answered. No number that is passed can do harm: each is looked at.
+ * Where several codes would do, the least of them is answered, unless a call says otherwise. No number that is passed can do harm: each is
+ * looked at.
  *
  * What a host owes: a handle begins as zeros, isn't copied or written to, and is in one call at a time; a pointer that is passed isn't
  * null, leads to as much as the call says, and to nothing of the handle or of another pointer's; no call is made in a signal handler.
@@ -66,9 +67,9 @@ typedef uint32_t lxr_code;
 #define LXR_OK         0u /* it is done */
 #define LXR_E_NO_HEAP  1u /* the handle is empty: it was never opened, or is closed */
 #define LXR_E_IN_USE   2u /* lxr_open: the handle has a heap already */
-#define LXR_E_REGISTER 3u /* the heap has no such register, or it stands where it can't */
-#define LXR_E_SIZE     4u /* a number of references, data words, blocks or registers is out of its range, or the size of settings */
-#define LXR_E_NIL      5u /* the base register is nil */
+#define LXR_E_REGISTER 3u /* the heap has no such register, or it stands where it can't; or an array wants two that the heap hasn't */
+#define LXR_E_SIZE     4u /* a number of references, data words, elements, blocks or registers is out of its range, or the size of settings */
+#define LXR_E_NIL      5u /* the base register is nil, or a part of an array */
 #define LXR_E_INDEX    6u /* the object has no such reference, data word or element, or no body with such words */
 #define LXR_E_FULL     7u /* what can be reached leaves no room */
 #define LXR_E_MEMORY   8u /* lxr_open: the machine has no memory for it */
@@ -373,8 +374,9 @@ lxr_code lxr_large_write(lxr_heap *heap, uint32_t base, uint32_t index, const ui
 
 /*
  * Register `dest` holds a new array of `length` elements, all nil. It is a lxr_new of each of its objects, the root first and then the parts
- * in order, and so many stores: pauses come between them as before lxr_new. Where there is no room for all of them it is LXR_E_FULL: `dest`
- * holds what it held, and the next pause that collects reclaims those that were made. More than 1,046,529 elements are LXR_E_SIZE in any heap.
+ * in order, and so many stores: pauses come between them as by lxr_new and lxr_store. Where there is no room for all of them it is LXR_E_FULL:
+ * `dest` holds what it held, and the next pause that collects reclaims those that were made. More than 1,046,529 elements are LXR_E_SIZE in any
+ * heap.
  * Codes: LXR_E_NO_HEAP, LXR_E_REGISTER, LXR_E_SIZE, LXR_E_FULL. Cost: grows with `length`; and that of pauses, where some are made.
  */
 lxr_code lxr_array_new(lxr_heap *heap, uint32_t dest, uint32_t length);

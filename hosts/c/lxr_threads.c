@@ -114,7 +114,7 @@ struct lxr_mutator {
     bool collects;      /* after its next operation it asks for a collecting pause */
     uint64_t collected; /* collecting pauses, as its pass left its home */
     bool asked;         /* it has asked for one since, and told nobody yet */
-    bool trims;         /* in the next pause memory goes back, and it has told nobody yet */
+    bool trims;         /* memory is to go back in the next pause, and it has told nobody yet */
     lxr_shared_heap *heap;
     char apart[APART];
 };
@@ -151,9 +151,9 @@ static uint64_t pace_in(const lxr_shared_heap *heap, uint32_t blocks) {
 }
 
 /*
- * The bytes of objects until a pause is due: those of the pace, or the room that is left, where there is room for less than all. Where a trace
- * by the room is to begin or runs, at most an eighth of what the last one left of it, so that it can end before the room is full; but none where
- * bytes want no pause.
+ * The bytes of objects until a pause is due: those of the pace, or the room that is left, where there is room for less than all. Where so much is
+ * used that a trace by the room is to begin, or would where one runs, at most an eighth of what the last one left of it, so that it can end before
+ * the room is full; but none where bytes want no pause.
  */
 static uint64_t due_bytes(const lxr_shared_heap *heap) {
     uint64_t due = heap->most < heap->settings.blocks ? pace_in(heap, blocks_left(heap->most, heap->used)) : heap->pace;

@@ -24,8 +24,8 @@
  * thread that waits for another one, for a lock that others hold, or for input, rests meanwhile; no call is made in a signal handler, nor
  * in a forked process of a heap that was opened before the fork.
  *
- * lxr_threads.c is the library behind this header: the waiting, in plain C over POSIX threads. What a pass may do and what comes of it is
- * the archive's, liblxr.a (lxr_passes.h), and proved.
+ * lxr_threads.c is the library behind this header: the waiting, and calls of several operations, in plain C over POSIX threads. What a pass may
+ * do and what comes of it is the archive's, liblxr.a (lxr_passes.h), and proved.
  */
 #ifndef LXR_THREADS_H
 #define LXR_THREADS_H
@@ -89,9 +89,9 @@ typedef struct lxr_pause_times {
  *
  * `blocks` are reserved. `room` is how many of them are in use before the library collects: after a pause that leaves more in use, each mutator asks
  * for a collecting one with its next operation, so that the next thread that goes on has it made. The pace is no more than the bytes that the last
- * pause left of the room, or than 64 KB where that is less; and while a trace by the room is to begin or runs, no more than an eighth of what the last
- * one left. By `grow` the room is set after each collecting pause and each end of a trace: to the blocks that are in use then and so many hundredths
- * more, but at least 64, and at most all. Where `grow` is 0 it stays as the host has set it; then what a
+ * pause left of the room, or than 64 KB where that is less; and while so much is used that a trace by the room is to begin, or would where one runs,
+ * no more than an eighth of what the last one left. By `grow` the room is set after each collecting pause and each end of a trace: to the blocks
+ * that are in use then and so many hundredths more, but at least 64, and at most all. Where `grow` is 0 it stays as the host has set it; then what a
  * collecting pause left in use and a quarter more counts as the room, where that is more. LXR_E_FULL comes only where all that is reserved is full.
  *
  * In a heap of more than 1,024 blocks at most `runs` pieces of free lines are listed after a pause for mutators to allocate in, besides all free

@@ -28,7 +28,7 @@ static const char usage[] =
     "\n"
     "--heap BLOCKS    size of the heap, 1 to 65536 (2048)\n"
     "--bodies BLOCKS  room for strings of more than 8184 bytes and vectors of more than 1023 elements, 1 to 65536 (2048)\n"
-    "--every BYTES    new objects between two plain pauses of the proved collector (chosen by the size of the heap)\n"
+    "--every BYTES    new objects between two plain pauses of the proved collector (chosen by what pauses keep)\n"
     "--registers N    registers of the heap that a thread has, up to 254 (254); it calls deeper without frames by more\n"
     "--pauses         tells at the end how many pauses there were, and how long they took, on the standard error output\n"
     "--threads N      runs on a heap that threads share, with up to N threads at once beside the first\n"

@@ -1,23 +1,41 @@
 /*
  * The heap on the proved collector. SPDX: MIT OR Apache-2.0
  *
- * Each call is one of the collector's, whose registers are the machine's. A plain pause, which goes by counts of references, comes once
- * half of what was free after the last one is used; what it leaves, cycles for instance, goes at the collecting pause that the collector
- * makes by itself where a new object finds no room. The plain pauses are asked for here, and not by the heap's own pace, so that each pause
- * that is timed is known by its kind.
+ * Each call is one of the collector's, whose registers are the machine's. The plain pauses, which go by counts of references, are asked for
+ * here, and not by the heap's own pace: so registers let go before each, and each pause that is timed is known by its kind. What they
+ * leave, cycles for instance, goes at the collecting pause that the collector makes by itself where a new object finds no room.
+ *
+ * A plain pause takes as long as what it keeps of the new objects, and as what dies by it. It is due once so many bytes were made that it
+ * is expected to keep KEPT objects of them, by what the last ones kept, or once half of what the last one left free is used, but after
+ * LEAST_BETWEEN bytes at least. What dies is taken apart before it, in slices; until these have nothing left to do, it is put off.
  */
 #include "memory.h"
 #include "pauses.h"
 #include <lxr.h>
 #include <stdlib.h>
 
-enum { HEADER_BYTES = 8, FIELD_BYTES = 8, LEAST_BETWEEN = 2 * BLOCK_BYTES };
+enum { HEADER_BYTES = 8, FIELD_BYTES = 8, LEAST_BETWEEN = 2 * BLOCK_BYTES, SLICE_BYTES = 4096 };
+
+/* A new object that is kept takes a pause 0.12 us (docs/SPEED.md), so that one which keeps twice as many as is expected takes 1.5 ms. */
+enum { KEPT = 6250 };
+
+/* Units of slices for each 64 bytes of new objects: a tree of 131,071 nodes dies while 256 KB are made, and a slice takes 0.1 ms. */
+#ifndef UNITS_OF_WORK
+#define UNITS_OF_WORK 32u
+#endif
 
 static lxr_heap heap = LXR_HEAP_INIT;
-static uint64_t chosen_bytes; /* of new objects between two plain pauses; 0: half of what is free */
+static uint64_t chosen_bytes; /* of new objects between two plain pauses; 0: by what is free, and by what pauses keep */
+static uint32_t work;         /* units of slices for each 64 bytes of new objects */
 int64_t memory_left;          /* until the next plain pause */
+static int64_t planned;       /* this many, right after the last one */
+
+/* How many objects a pause is expected to keep for each byte that was made before it: at first all, of 48 bytes each, as pairs have. */
+static double kept_of_a_byte = 1.0 / 48;
+
+static uint64_t pauses_known; /* that there had been right after the last one that was asked for, or that was timed */
+static uint64_t pauses_asked; /* that there had been right after the last one that was asked for */
 static bool is_timed;
-static uint64_t pauses_known;
 
 /* A code that tells a mistake of the interpreter. */
 __attribute__((noreturn, cold)) static void refuse(lxr_code code) {
@@ -35,16 +53,50 @@ static uint64_t count(uint32_t what) {
     return number;
 }
 
+/* The bytes of which a pause is expected to keep KEPT objects, but at most half of what is free, and at least LEAST_BETWEEN. */
+static int64_t bytes_to_make(void) {
+    const int64_t half = (int64_t)count(LXR_COUNT_FREE_BLOCKS) * BLOCK_BYTES / 2;
+    const int64_t bytes = kept_of_a_byte * (double)half > KEPT ? (int64_t)(KEPT / kept_of_a_byte) : half;
+    return bytes > LEAST_BETWEEN ? bytes : LEAST_BETWEEN;
+}
+
 static void plan_pause(void) {
-    const uint64_t half = count(LXR_COUNT_FREE_BLOCKS) * BLOCK_BYTES / 2;
-    memory_left = (int64_t)(chosen_bytes ? chosen_bytes : half > LEAST_BETWEEN ? half : LEAST_BETWEEN);
+    planned = chosen_bytes ? (int64_t)chosen_bytes : bytes_to_make();
+    memory_left = planned;
+    pauses_asked = pauses_known = count(LXR_COUNT_PAUSES);
+}
+
+/* What a pause has kept has a quarter of the weight in what is expected of the next one, and three quarters where it was more than
+ * expected. */
+static void learn_from_pause(int64_t made) {
+    const double kept = (double)count(LXR_COUNT_PROMOTED) / (double)made;
+    const double weight = kept > kept_of_a_byte ? 0.75 : 0.25;
+    kept_of_a_byte += weight * (kept - kept_of_a_byte);
+}
+
+/* Whether slices have more to do before a pause. It is found out by one unit of it. */
+static bool has_slices(void) {
+    uint32_t more = 0;
+    if (work) want(lxr_work(&heap, 1, &more));
+    return more;
+}
+
+/* The pause comes one slice later. */
+static void put_off(void) {
+    planned += SLICE_BYTES - memory_left;
+    memory_left = SLICE_BYTES;
 }
 
 void memory_pause(void) {
+    if (has_slices()) {
+        put_off();
+        return;
+    }
+    const bool is_next = count(LXR_COUNT_PAUSES) == pauses_asked; /* the library has made none since */
     const uint64_t began = is_timed ? pauses_clock() : 0;
     want(lxr_pause(&heap));
     if (is_timed) pauses_add(PAUSE_PLAIN, pauses_clock() - began);
-    pauses_known++;
+    if (is_next) learn_from_pause(planned - memory_left);
     plan_pause();
 }
 
@@ -54,7 +106,6 @@ static void note_pauses(PauseKind kind, uint64_t began) {
     if (pauses == pauses_known) return;
     pauses_add(kind, pauses_clock() - began);
     pauses_known = pauses;
-    plan_pause();
 }
 
 bool memory_open(const MemoryOptions *options) {
@@ -63,6 +114,7 @@ bool memory_open(const MemoryOptions *options) {
     lxr_settings settings = LXR_SETTINGS(options->blocks, options->body_blocks);
     settings.pace = LXR_PACE_NEVER;
     settings.grow = 0;
+    settings.work = work = UNITS_OF_WORK;
     settings.registers = options->registers;
     if (lxr_open(&heap, &settings) != LXR_OK) return false;
     plan_pause();
@@ -205,7 +257,6 @@ void memory_collect(void) {
     const uint64_t began = is_timed ? pauses_clock() : 0;
     want(lxr_collect(&heap));
     if (is_timed) pauses_add(PAUSE_COLLECTING, pauses_clock() - began);
-    pauses_known++;
     plan_pause();
 }
 

@@ -1,11 +1,11 @@
 //! The store machine: one store of a reference, one atomic step at a time.
-ghost use Rattle.std.specs.Prelude.{◌≡◌, ◌<◌, ◌≤◌, ◌/◌, ◌+◌, ◌^◌, ◌↔◌, IsSome, IsTrue, None, Some, if◌then◌else◌, length};
+ghost use Rattle.std.specs.Prelude.{◌≡◌, ◌<◌, ◌≤◌, ◌/◌, ◌+◌, ◌^◌, ◌↔◌, IfSome, IsSome, IsTrue, None, Some, if◌then◌else◌, length};
 ghost use Rattle.std.specs.Option.{ForSome};
 ghost use Rattle.lxr_tables.specs.Entries.{all_but, is_set};
 ghost use Rattle.lxr_layout.specs.Places.{IsPlace, place_in};
 ghost use Rattle.lxr_layout.specs.declared.Place.{Place};
 ghost use Rattle.lxr_actor.specs.declared.Kindred.TheVariants.{And};
-ghost use Rattle.lxr_barrier.specs.declared.machines.StorePhase.TheVariants.{Begun};
+ghost use Rattle.lxr_barrier.specs.declared.machines.StorePhase.TheVariants.{Begun, Logged};
 ghost use Rattle.lxr_barrier.specs.declared.machines.StoreEnd.TheVariants.{LogFull};
 ghost use Rattle.lxr_barrier.specs.Storing.{begun, begun_swap, bit_number, bit_word, end_of, entry_of, last_end, last_kind, log_after, next_action, old_of, reference_word, store_after, swaps_next, target};
 ghost use Rattle.lxr_barrier.specs.Storers.{rests_in};
@@ -77,6 +77,7 @@ impl Model for StoreMachine {
 impl StoreMachine {
     /// A store of `value` to reference `index` of the object at `place`, in a space of these regions. It has taken no
     /// step.
+    #[inline(always)]
     pub fn new(regions: Regions, place: Place, index: u16, value: Place) -> StoreMachine
         requires regions { regions.unlogged + regions.counts / 64 < 2 ^ 32 }
         requires place { IsPlace place }
@@ -94,6 +95,7 @@ impl StoreMachine {
     }
 
     /// The same with a last step that swaps: the reference that was there is told as `old`.
+    #[inline(always)]
     pub fn swapping(regions: Regions, place: Place, index: u16, value: Place) -> StoreMachine
         requires regions { regions.unlogged + regions.counts / 64 < 2 ^ 32 }
         requires place { IsPlace place }
@@ -155,6 +157,48 @@ impl StoreMachine {
             StorePhase::Logged => StorePhase::Ended(last_end(self.last, old)),
             StorePhase::Ended(end) => StorePhase::Ended(end),
         };
+    }
+
+    /// Whether it looks at its bit next.
+    #[inline(always)]
+    pub fn has_begun(&self) -> bool
+        ensures { IsTrue result ↔ (self.now.phase ≡ Begun) }
+    {
+        matches!(self.phase, StorePhase::Begun)
+    }
+
+    /// Whether its last step is next.
+    #[inline(always)]
+    pub fn is_behind_barrier(&self) -> bool
+        ensures { IsTrue result ↔ (self.now.phase ≡ Logged) }
+    {
+        matches!(self.phase, StorePhase::Logged)
+    }
+
+    /// What its last step does.
+    #[inline(always)]
+    pub fn last(&self) -> LastStep
+        ensures { result ≡ self.now.last }
+    {
+        self.last
+    }
+
+    /// Goes on after the word with its bit was loaded as `old`, with this log: as `take` does in this phase, which it doesn't ask for. Whether the bit was
+    /// clear. Else the store ends where the log is full.
+    #[inline(always)]
+    pub fn look(&mut self, old: u64, log: &Log) -> bool
+        requires { self.old.phase ≡ Begun }
+        ensures machine { self.new ≡ store_after self.old log.now old }
+        ensures clear { IsTrue result → end_of self.new ≡ None }
+        ensures full { IfSome (end_of self.new) (λ end. end ≡ LogFull) }
+    {
+        let was_set = old >> (self.target() % 64) & 1 == 1;
+        if !was_set {
+            self.phase = StorePhase::Logged;
+            return true;
+        }
+        self.phase = after_look(was_set, log.is_full());
+        false
     }
 
     /// How the store ended; none until it is through.

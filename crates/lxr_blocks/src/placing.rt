@@ -1,5 +1,5 @@
 //! Placing an object in a pause, one at a time.
-ghost use Rattle.std.specs.Prelude.{◌≡◌, ◌≢◌, ℕ, ◌+◌, ◌*◌, ◌<◌, ◌≤◌, ◌↔◌, IfNone, IfSome, IsNone};
+ghost use Rattle.std.specs.Prelude.{◌≡◌, ◌≢◌, ℕ, ◌+◌, ◌-◌, ◌*◌, ◌/◌, ◌<◌, ◌≤◌, ◌↔◌, IfNone, IfSome, IsNone};
 ghost use Rattle.lxr_layout.specs.declared.TheConstants.{GRANULES_IN_BLOCK, GRANULES_IN_LINE, LINES_IN_BLOCK};
 ghost use Rattle.lxr_layout.specs.declared.runs.Run.{Run};
 ghost use Rattle.lxr_layout.specs.Objects.{FitsShape, line_count, word_count};
@@ -133,18 +133,20 @@ fn search_from(space: &Space) -> u32
     if last < space.limits.blocks { last } else { 0 }
 }
 
-/// Writes a new object at a granule: its header, and zeros in its further words.
+/// Writes a new object at a granule: its header, and zeros in its further words. A header before more than one word isn't 0, so that the block is in use.
 fn write_object(space: &mut Space, granule: u32, name: Name, shape: Shape)
     requires space { IsSpace space.old }
     requires shape { FitsShape shape }
     requires granule { granule + granule_count shape ≤ GRANULES_IN_BLOCK * space.old.limits.blocks }
+    requires block { granule / GRANULES_IN_BLOCK ≡ (granule + granule_count shape - 1) / GRANULES_IN_BLOCK }
     ensures { Turns space.old space.new (with_object (tables_of space.old) granule name shape) }
 {
     let first = 2 * granule;
-    for at in first + 1..first + words_of(shape) {
-        space.put_heap(at, 0);
-    }
     space.put_heap(first, pack(name, shape));
+    space.put_heap(first + 1, 0);
+    for at in first + 2..first + words_of(shape) {
+        space.put_used(at, 0);
+    }
 }
 
 /// Places an object at the front of the rest, which it fits.
@@ -153,6 +155,7 @@ fn place_in_rest(space: &mut Space, name: Name, shape: Shape) -> Place
     requires shape { FitsShape shape }
     requires fits { space.old.rest_next + granule_count shape ≤ space.old.rest_end }
     requires in_heap { space.old.rest_end ≤ GRANULES_IN_BLOCK * space.old.limits.blocks }
+    requires in_block { space.old.rest_next / GRANULES_IN_BLOCK ≡ (space.old.rest_end - 1) / GRANULES_IN_BLOCK }
     ensures place { result ≡ place_at space.old.rest_next }
     ensures changes { TurnsWithRest space.old space.new (with_object (tables_of space.old) space.old.rest_next name shape) (space.old.rest_next + granule_count shape) space.old.rest_end }
 {

@@ -19,12 +19,14 @@ use Rattle.lxr_c_heap.specs.Hosting.{IsHostOf, registers_in}
 use Rattle.lxr_c_many.specs.Fields.{references_in, words_in}
 use Rattle.lxr_c_arrays.specs.declared.registers.Pair.{Pair}
 use Rattle.lxr_c_arrays.specs.declared.side.Side.TheVariants as side
-use Rattle.lxr_c_arrays.specs.Elements.{FillsReplaceElements, HasFilled, HasLeft, as_named, as_renamed, element_at, elements_at, elements_of, with_names, with_renewals}
+use Rattle.lxr_c_arrays.specs.Elements.{FillsReplaceElements, HasFilled, HasLeft, IsNoPart, as_named, as_renamed, element_at, elements_at, elements_of, with_names, with_renewals}
 use Rattle.lxr_c_arrays.specs.Operations.{store_of}
 use Rattle.lxr_c_arrays.specs.Plans.{IsPair, fill_steps, filling, first_own, planned}
 use Rattle.lxr_c_arrays.specs.Running.{Carries, Runs, in_turn}
 use Rattle.lxr_c_arrays.specs.Sides.{range_held, root_length, store_steps}
 use Rattle.lxr_c_arrays.proofs.ElementLemmas.{few_registers, small_index}
+use Rattle.lxr_c_arrays.proofs.LeftLemmas.{element_left, reference_at, same_list, whole_at}
+use Rattle.lxr_c_arrays.proofs.ReachLemmas.{apart_named, no_part_named, own_named}
 use Rattle.lxr_c_arrays.proofs.RunLemmas.{runs_apart, runs_host}
 use Rattle.lxr_c_arrays.proofs.SettleLemmas.{Settled, named_bodies, same_references}
 use Rattle.lxr_c_arrays.proofs.StoreLemmas.{SetReference, bodies_now, held_refs, references_beside, references_now, references_were, registers_now, root_by, store_first, words_beside, words_now}
@@ -60,12 +62,26 @@ pub record Keeps (registers array : ℕ) (renewals : List (List Name)) (s u : La
   pub left : HasLeft registers array renewals s u
   pub apart : (q r : ℕ) → q < registers → r < registers → register_at u.small 1 q ≡ register_at u.small 1 r → register_at s.small 1 q ≡ register_at s.small 1 r
   pub words : words_in u array ≡ words_in s array
+  pub no_part : (r : ℕ) → r < registers → register_at s.small 1 r ≢ register_at s.small 1 array → IsNoPart s r array → IsNoPart u r array
+
+pub same_reference : (v : Option (Option Name)) → v ≡ option_map (as_renamed []) v
+same_reference None = refl
+same_reference (Some v) = refl
 
 pub keeps_same : (registers array : ℕ) (s : LargeState) → Keeps registers array [] s s
 keeps_same registers array s = record {
-  left = record { held = λ r less. refl; references = λ r less other. same_references (references_in s r); words = λ r less other. refl; bodies = refl };
+  left = record {
+    held = λ r less. refl;
+    references = λ r less other. same_references (references_in s r);
+    words = λ r less other. refl;
+    elements = λ r i less other none. same_reference (element_at s r i);
+    own = λ r less other was. was;
+    apart = λ q r less few other differs are. are;
+    bodies = refl;
+  };
   apart = λ q r less few same. same;
   words = refl;
+  no_part = λ r less other none. none;
 }
 
 -- after one more store
@@ -77,35 +93,28 @@ keeps_more registers array i source renewals s u b w keeps settled set small =
     let held : (r : ℕ) → register_at w.small 1 r ≡ register_at b.small 1 r = λ r. ap (λ (z : LargeState). register_at z.small 1 r) set.after in
     let beside : (r : ℕ) → r < registers → register_at s.small 1 r ≢ register_at s.small 1 array → register_at b.small 1 r ≢ register_at b.small 1 array =
     λ r less other e. other (keeps.apart r array less small (settled.apart r array e)) in
+    let now : (r : ℕ) → register_at w.small 1 r ≡ as_named names (register_at u.small 1 r) = λ r. registers_now u b array i source settled w set r in
+    let refs : (r : ℕ) → r < registers → register_at s.small 1 r ≢ register_at s.small 1 array → references_in w r ≡ option_map (map (as_named names)) (references_in u r) =
+    λ r less other. references_beside u b array i source settled w set r (beside r less other) in
     record {
       left = record {
-        held = λ r less. registers_now u b array i source settled w set r ∙ ap (as_named names) (left.held r less) ∙ named_with names renewals (register_at s.small 1 r);
-        references = λ r less other. references_beside u b array i source settled w set r (beside r less other) ∙ ap (option_map (map (as_named names))) (left.references r less other)
-            ∙ named_lists names renewals (references_in s r);
+        held = λ r less. now r ∙ ap (as_named names) (left.held r less) ∙ named_with names renewals (register_at s.small 1 r);
+        references = λ r less other. refs r less other ∙ ap (option_map (map (as_named names))) (left.references r less other) ∙ named_lists names renewals (references_in s r);
         words = λ r less other. words_beside u b array i source settled w set r (beside r less other) ∙ left.words r less other;
+        elements = λ r j less other none. element_left u b w array i source settled set r j (beside r less other) (keeps.no_part r less other none)
+            ∙ ap (option_map (as_named names)) (left.elements r j less other none) ∙ named_at names renewals (element_at s r j);
+        own = λ r less other was. own_named u b w settled r (now r) (refs r less other) (left.own r less other was);
+        apart = λ q r less few other differs are. apart_named u b w settled q r (refs q less other) (now r) (refs r few differs) (left.apart q r less few other differs are);
         bodies = bodies_now u b array i source settled w set ∙ renewed_bodies names renewals s u left.bodies;
       };
       apart = λ q r less few same. keeps.apart q r less few (settled.apart q r (sym (held q) ∙ same ∙ held r));
       words = words_now u b array i source settled w set ∙ keeps.words;
+      no_part = λ r less other none. no_part_named u b w settled r array (now array) (refs r less other) (keeps.no_part r less other none);
     }
 
 -- ---- references
 
--- one of what a register refers to
-abbrev pub reference_at : LargeState → ℕ → ℕ → Option (Option Name)
-reference_at s r i = slice_get (unwrap_or (references_in s r) []) i
-
-same_list : (v : Option (List (Option Name))) → option_map (λ rs. rs) v ≡ v
-same_list None = refl
-same_list (Some rs) = refl
-
--- an element of what is no root is one
-pub whole_at : (s : LargeState) (base i : ℕ) → root_length s base ≡ None → element_at s base i ≡ reference_at s base i
-whole_at s base i none =
-    ap (λ root. slice_get (unwrap_or (option_map (λ rs. elements_of s.small.graph rs root) (references_in s base)) []) i) none
-    ∙ ap (λ vs. slice_get (unwrap_or vs []) i) (same_list (references_in s base))
-
--- and there are as many
+-- what is no root has as many elements as references
 pub as_many : (s : LargeState) (base : ℕ) → root_length s base ≡ None → length (unwrap_or (elements_at s base) []) ≡ length (unwrap_or (references_in s base) [])
 as_many s base none =
     ap (λ root. length (unwrap_or (option_map (λ rs. elements_of s.small.graph rs root) (references_in s base)) [])) none ∙ ap (λ vs. length (unwrap_or vs [])) (same_list (references_in s base))
@@ -146,15 +155,11 @@ stored_index x h array i source b w is small settled set =
     small_index x h array i whose.0 is small whose.1 (omega (arith, as_many, long, inside))
 
 -- rounds of a fill were done
-record Fills (registers first n : ℕ) (pair : Pair) (s u : LargeState) : Type 0 where
+pub record Fills (registers first n : ℕ) (pair : Pair) (s u : LargeState) : Type 0 where
   pub renewals : List (List Name)
   pub keeps : Keeps registers pair.array renewals s u
   pub filled : (i : ℕ) → first ≤ i → i < first + n → reference_at u pair.array i ≡ Some (as_renamed renewals (register_at s.small 1 pair.other))
   pub others : (i : ℕ) → (i < first) ⊎ (first + n ≤ i) → reference_at u pair.array i ≡ option_map (as_renamed renewals) (reference_at s pair.array i)
-
-pub same_reference : (v : Option (Option Name)) → v ≡ option_map (as_renamed []) v
-same_reference None = refl
-same_reference (Some v) = refl
 
 fill_round : (registers first n : ℕ) (pair : Pair) (s u b w : LargeState) → IsPair registers pair → Fills registers first n pair s u → Settled u b → SetReference b w pair.array (first + n) pair.other → Fills registers first (suc n) pair s w
 fill_round registers first n pair s u b w (array, other) fills settled set =
@@ -178,7 +183,7 @@ fill_round registers first n pair s u b w (array, other) fills settled set =
           ∙ named_at names renewals (reference_at s pair.array i);
     }
 
-fill_rounds : (x y : HostHeap) (h k : List LargeItem) (registers first n : ℕ) (pair : Pair) → IsHostOf x h → IsPair registers pair → registers ≤ REGISTERS
+pub fill_rounds : (x y : HostHeap) (h k : List LargeItem) (registers first n : ℕ) (pair : Pair) → IsHostOf x h → IsPair registers pair → registers ≤ REGISTERS
     → Runs x h (in_turn (fill_steps (side.Whole pair.array) first pair.other) n) y k code.Done → Fills registers first n pair (large_state h) (large_state k)
 fill_rounds x y h k registers first zero pair is fits few (same, left, done) = subst (λ l. Fills registers first zero pair (large_state h) (large_state l)) (sym left) (record {
   renewals = [];

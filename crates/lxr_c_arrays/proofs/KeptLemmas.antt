@@ -92,7 +92,7 @@ performed x y h k (asked.See o) told q apart performs = absurd apart
 performed x y h k (asked.IsNil register) told q apart performs = absurd apart
 
 -- an operation that gives a register something
-abbrev Gives : LargeOp → Type 0
+abbrev pub Gives : LargeOp → Type 0
 Gives (large_op.Small (op.New dest shape)) = ⊤
 Gives (large_op.Small (op.Load dest base index)) = ⊤
 Gives (large_op.Small (op.Move dest source)) = ⊤
@@ -112,7 +112,7 @@ refused_load s dest index (Some n) failed = at_found (slice_get (refs_of (object
     at_found None failed = refl
     at_found (Some v) failed = absurd (failed refl)
 
-refused_after : (terms : LargeTerms) (h : List LargeItem) (o : LargeOp) (r : LargeReply) → Gives o → LargeReplies terms h o r → code_of r ≢ code.Done → large_after (large_state h) o r ≡ large_state h
+pub refused_after : (terms : LargeTerms) (h : List LargeItem) (o : LargeOp) (r : LargeReply) → Gives o → LargeReplies terms h o r → code_of r ≢ code.Done → large_after (large_state h) o r ≡ large_state h
 refused_after terms h (large_op.Small (op.New dest shape)) (large_reply.Small reply.Full) gives replies failed = refl
 refused_after terms h (large_op.Small (op.New dest shape)) r gives replies failed = absurd (failed (ap code_of (sym replies)))
 refused_after terms h (large_op.Small (op.Load dest base index)) r gives replies failed =
@@ -235,7 +235,7 @@ some_but registers dest small = (
 )
 
 -- a call that doesn't tell success gives none of the host's something
-given_none : (c : Code) (dest : ℕ) → c ≢ code.Done → given_by c dest ≡ None
+pub given_none : (c : Code) (dest : ℕ) → c ≢ code.Done → given_by c dest ≡ None
 given_none code.Done dest failed = absurd (failed refl)
 given_none c dest failed = refl
 

@@ -9,6 +9,7 @@ pub mod SettleLemmas
 pub mod StoreLemmas
 pub mod NewLemmas
 pub mod PartLemmas
+pub mod LeftLemmas
 pub mod FillLemmas
 pub mod RootFillLemmas
 pub mod CopyLemmas
@@ -18,4 +19,6 @@ pub mod OwnLemmas
 pub mod ReachLemmas
 pub mod LedLemmas
 pub mod KeptLemmas
+pub mod AllReachedLemmas
+pub mod RefusedLemmas
 mod ThroughLemmas

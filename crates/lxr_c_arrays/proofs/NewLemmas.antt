@@ -18,7 +18,7 @@ use Rattle.lxr_large_model.specs.declared.LargeOp.TheVariants as large_op
 use Rattle.lxr_large_model.specs.declared.LargeReply.{LargeReply}
 use Rattle.lxr_large_model.specs.declared.LargeReply.TheVariants as large_reply
 use Rattle.lxr_large_model.specs.Full.{LargeReplies, LargeTerms}
-use Rattle.lxr_large_model.specs.History.{LargeItem, large_state}
+use Rattle.lxr_large_model.specs.History.{Called, LargeItem, large_state}
 use Rattle.lxr_large_model.specs.State.{LargeState}
 use Rattle.lxr_large_model.specs.Step.{large_after}
 use Rattle.lxr_heap.specs.declared.heap.Heap.{Heap}
@@ -37,14 +37,14 @@ use Rattle.lxr_c_many.specs.declared.asked.Asked.{Asked}
 use Rattle.lxr_c_many.proofs.ApplyLemmas.{performs_host}
 use Rattle.lxr_c_many.proofs.HostLemmas.{making_host}
 use Rattle.lxr_c_many.proofs.MakingLemmas.{all_registers}
-use Rattle.lxr_c_arrays.specs.Elements.{NewElementsAreNil}
+use Rattle.lxr_c_arrays.specs.Elements.{CanReach, NewElementsAreNil, by_reference, by_register}
 use Rattle.lxr_c_arrays.specs.Operations.{new_of}
 use Rattle.lxr_c_arrays.specs.Plans.{parts_plan}
 use Rattle.lxr_c_arrays.specs.Running.{Carries, Runs}
 use Rattle.lxr_c_arrays.specs.Sides.{root_length}
 use Rattle.lxr_c_heap.specs.Hosting.{own_in}
 use Rattle.lxr_c_arrays.proofs.ElementLemmas.{changed_register, few_registers, other_register}
-use Rattle.lxr_c_arrays.proofs.ReachLemmas.{ReachApart, reached_over}
+use Rattle.lxr_c_arrays.proofs.ReachLemmas.{ReachApart, apart_named, apart_over, own_named, own_over, reached_over}
 use Rattle.lxr_c_arrays.proofs.SettleLemmas.{IsReached, IsReachedBy, Settled, paused_state, settling, turned_state}
 use Rattle.lxr_c_arrays.proofs.StoreLemmas.{unlike, whole_elements}
 
@@ -83,11 +83,35 @@ module _ (x : Heap) (h : List LargeItem) (is : IsHeapOf x h) where
       at_object (Some o) found =
           member_there n (reference_held (abstract_of x h is.at).moment m o i (Some n) is.stands.0.safepoint.holds.follows (held_member r m held) (ap (λ (z : State). object_at z.graph m) is.state ∙ found) (subst (λ q. slice_get (refs_of q) i ≡ Some (Some n)) found read))
 
+  -- so is all that registers can reach
+  all_held : (k : ℕ) (n : Name) → CanReach k (large_state h) n → IsHeld (abstract_of x h is.at).moment (Some n)
+  all_held k q (by_register r n less held) = held_member r n held
+  all_held k q (by_reference m n i reach read) = at_object (object_at (large_state h).small.graph m) refl (all_held k m reach)
+    where
+      at_object : (o : Option Object) → object_at (large_state h).small.graph m ≡ o → IsHeld (abstract_of x h is.at).moment (Some m) → IsHeld (abstract_of x h is.at).moment (Some n)
+      at_object None none member = absurd (let nowhere : slice_get (refs_of None) i ≡ Some (Some n) = subst (λ o. slice_get (refs_of o) i ≡ Some (Some n)) none read in cc)
+      at_object (Some o) found member =
+          reference_held (abstract_of x h is.at).moment m o i (Some n) is.stands.0.safepoint.holds.follows member (ap (λ (z : State). object_at z.graph m) is.state ∙ found) (subst (λ q. slice_get (refs_of q) i ≡ Some (Some n)) found read)
+
+  pub all_there : (k : ℕ) (n : Name) → CanReach k (large_state h) n → HasObject (large_state h).small.graph n
+  all_there k n reach = member_there n (all_held k n reach)
+
 -- success tells of an object
 reply_new : (terms : LargeTerms) (h : List LargeItem) (dest : ℕ) (shape : Shape) (r : LargeReply) → LargeReplies terms h (large_op.Small (op.New dest shape)) r → code_of r ≡ code.Done
     → r ≡ large_reply.Small (reply.New (next_name (large_state h).small.graph 1))
 reply_new terms h dest shape (large_reply.Small reply.Full) replies done = absurd (cc)
 reply_new terms h dest shape r replies done = sym replies
+
+pub object_made : (p m : HostHeap) (b j : List LargeItem) (dest : ℕ) (shape : Shape) (r : LargeReply) → IsHostOf p b → LargeReplies (terms_of m.heap) b (large_op.Small (op.New dest shape)) r
+    → j ≡ Called (large_op.Small (op.New dest shape)) r ∷ b → code_of r ≡ code.Done → GotObject (large_state b) (large_state j) dest shape
+object_made p m b j dest shape r host replies left done =
+    let two = two_rows p.heap.space (abstract_of p.heap b host.heap.at) host.heap.stands.0 (one_thread p.heap b host.heap) in
+    let same = ap (λ (z : State). length z.graph) host.heap.state in
+    record {
+      rows = omega (arith, two, same);
+      registers = all_registers p.heap b host.heap;
+      after = ap large_state left ∙ ap (large_after (large_state b) (large_op.Small (op.New dest shape))) (reply_new (terms_of m.heap) b dest shape r replies done);
+    }
 
 -- the first operation of a run made an object, after settling, and the others follow
 pub record MakesFirst (h : List LargeItem) (dest : ℕ) (shape : Shape) (ops : List Asked) (y : HostHeap) (k : List LargeItem) : Type 0 where
@@ -106,9 +130,6 @@ make_first x y h k dest refs values ops is (m, j, t, (r, makes, left, told), inl
     let shape : Shape = record { refs = refs; values = values } in
     let b = makes.acts.history in
     let host = making_host x m h (large_op.Small (op.New dest shape)) r is makes in
-    let two = two_rows makes.acts.middle.heap.space (abstract_of makes.acts.middle.heap b host.heap.at) host.heap.stands.0 (one_thread makes.acts.middle.heap b host.heap) in
-    let same = ap (λ (z : State). length z.graph) host.heap.state in
-    let new = reply_new (terms_of m.heap) b dest shape r makes.acts.replies.heap.holds.legal.1.reply (sym (ap (λ (u : Told). u.code) told) ∙ done) in
     record {
       heap = m;
       history = j;
@@ -119,11 +140,7 @@ make_first x y h k dest refs values ops is (m, j, t, (r, makes, left, told), inl
           ∙ turned_state makes.settled makes.paused makes.settled_history makes.turns))
           (settling ENDS x makes.settled h makes.settled_history makes.settles);
       there = reached_there makes.acts.middle.heap b host.heap;
-      made = record {
-        rows = omega (arith, two, same);
-        registers = all_registers makes.acts.middle.heap b host.heap;
-        after = ap large_state left ∙ ap (large_after (large_state b) (large_op.Small (op.New dest shape))) new;
-      };
+      made = object_made makes.acts.middle m b j dest shape r host makes.acts.replies.heap.holds.legal.1.reply left (sym (ap (λ (u : Told). u.code) told) ∙ done);
       rest = rest;
     }
 make_first x y h k dest refs values ops is (m, j, t, performs, inr (failed, same, left, told)) = absurd (failed (sym told))
@@ -155,6 +172,14 @@ module _ (s u : LargeState) (dest : ℕ) (shape : Shape) (made : GotObject s u d
 
   pub old_register : (r : ℕ) → r ≢ dest → register_at u.small 1 r ≡ register_at s.small 1 r
   old_register r apart = ap (λ (z : LargeState). register_at z.small 1 r) made.after ∙ other_register s.small dest r (Some next) apart
+
+  pub old_references : (r : ℕ) → r ≢ dest → AreThere s → references_in u r ≡ references_in s r
+  old_references r apart there = ap (option_map (λ n. refs_of (object_at u.small.graph n))) (old_register r apart) ∙ at_held (register_at s.small 1 r) refl
+    where
+      at_held : (v : Option Name) → register_at s.small 1 r ≡ v → option_map (λ n. refs_of (object_at u.small.graph n)) (register_at s.small 1 r) ≡ option_map (λ n. refs_of (object_at s.small.graph n)) (register_at s.small 1 r)
+      at_held None e = ap (option_map (λ n. refs_of (object_at u.small.graph n))) e ∙ sym (ap (option_map (λ n. refs_of (object_at s.small.graph n))) e)
+      at_held (Some m) e =
+          ap (option_map (λ n. refs_of (object_at u.small.graph n))) e ∙ ap (λ o. Some (refs_of o)) (old_object m (there m (r, inl e))) ∙ sym (ap (option_map (λ n. refs_of (object_at s.small.graph n))) e)
 
   -- the register reaches the new object alone, and another one what it reached
   reached_new : (n : Name) → dest < REGISTERS → IsReachedBy u dest n → n ≡ next
@@ -195,6 +220,12 @@ new_elements_are_nil x y h wanted is (small, most) few carried =
         names = first.settled.names;
         held = λ r less apart. old_register b u wanted.dest shape first.made r apart ∙ first.settled.registers r;
         objects = λ n has. old_object b u wanted.dest shape first.made n (subst (λ (z : LargeState). HasObject z.small.graph n) (sym first.settled.state) has) ∙ ap (λ (z : LargeState). object_at z.small.graph n) first.settled.state;
+        own = λ r less other was.
+            own_over b u r (old_register b u wanted.dest shape first.made r other) (old_references b u wanted.dest shape first.made r other first.there)
+            (own_named (large_state h) b b first.settled r (first.settled.registers r) (first.settled.references r) was);
+        apart = λ q r less few other differs are.
+            apart_over b u q r (old_references b u wanted.dest shape first.made q other first.there) (old_register b u wanted.dest shape first.made r differs) (old_references b u wanted.dest shape first.made r differs first.there)
+            (apart_named (large_state h) b b first.settled q r (first.settled.references q) (first.settled.registers r) (first.settled.references r) are);
         bodies = ap (λ (z : LargeState). z.large) first.made.after ∙ ap (λ (z : LargeState). z.large) first.settled.state;
       },
     )

@@ -23,7 +23,7 @@ use Rattle.lxr_c_arrays.specs.Running.{Carries, Runs}
 use Rattle.lxr_c_arrays.specs.Sides.{parts_side, root_length, side_by}
 use Rattle.lxr_c_arrays.proofs.ElementLemmas.{changed_register, few_registers, load_first, nil_last, other_register, root_element}
 use Rattle.lxr_c_arrays.proofs.PlanLemmas.{own_first, own_there}
-use Rattle.lxr_c_arrays.proofs.ReachLemmas.{own_named, own_over}
+use Rattle.lxr_c_arrays.proofs.ReachLemmas.{apart_named, apart_over, own_named, own_over}
 use Rattle.lxr_c_arrays.proofs.SettleLemmas.{named_bodies, named_objects}
 use Rattle.lxr_c_arrays.proofs.StoreLemmas.{bodies_now, changed_now, held_refs, others_now, reference_set, references_beside, references_were, registers_now, root_by, store_first, words_beside}
 
@@ -96,6 +96,15 @@ stored x m y h j k index part elements pair is (array, other) own room root with
             own_named s1 b u1 second.settled r (registers_now s1 b part (index % 1023) pair.other second.settled u1 second.set r) (references_beside s1 b part (index % 1023) pair.other second.settled u1 second.set r no_part) loaded in
             let left : register_at u.small 1 r ≡ register_at u1.small 1 r = other_register u1.small part r None own_apart in
             own_over u1 u r left (ap (option_map (λ n. refs_of (object_at u1.small.graph n))) left) stored;
+        apart = λ q r less few beside differs are.
+            let over : (o : ℕ) → o < registers_in x → references_in s1 o ≡ references_in s o =
+            λ o small. ap (option_map (λ n. refs_of (object_at s1.small.graph n))) (kept o small) ∙ ap (λ g. option_map (λ n. refs_of (object_at g n)) (register_at s.small 1 o)) same_graph in
+            let left : (o : ℕ) → o < registers_in x → register_at u.small 1 o ≡ register_at u1.small 1 o = λ o small. other_register u1.small part o None (λ e. omega (arith, e, own, small)) in
+            let stored : (o : ℕ) → o < registers_in x → register_at s.small 1 o ≢ part_at s pair.array index → references_in u1 o ≡ option_map (map f) (references_in s1 o) =
+            λ o small no_part. references_beside s1 b part (index % 1023) pair.other second.settled u1 second.set o (λ e. no_part (sym (kept o small) ∙ second.settled.apart o part e ∙ at_hand ∙ sym part_is)) in
+            apart_over u1 u q r (ap (option_map (λ n. refs_of (object_at u1.small.graph n))) (left q less)) (left r few) (ap (option_map (λ n. refs_of (object_at u1.small.graph n))) (left r few))
+            (apart_named s1 b u1 second.settled q r (stored q less beside) (registers_now s1 b part (index % 1023) pair.other second.settled u1 second.set r) (stored r few differs)
+            (apart_over s s1 q r (over q less) (kept r few) (over r few) are));
         bodies = bodies_now s1 b part (index % 1023) pair.other second.settled u1 second.set ∙ named_bodies names s s1 (ap (λ (z : LargeState). z.large) first.got.after);
       }),
     )

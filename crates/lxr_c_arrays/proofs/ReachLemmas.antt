@@ -10,7 +10,7 @@ use Rattle.lxr_graph.specs.Renewing.{renewed_held}
 use Rattle.lxr_graph.specs.State.{object_at, refs_of, register_at}
 use Rattle.lxr_large_model.specs.State.{LargeState}
 use Rattle.lxr_c_many.specs.Fields.{references_in}
-use Rattle.lxr_c_arrays.specs.Elements.{AreApart, HasOwnParts, as_named, part_of}
+use Rattle.lxr_c_arrays.specs.Elements.{AreApart, HasOwnParts, IsNoPart, as_named, part_of}
 use Rattle.lxr_c_arrays.proofs.OwnLemmas.{nil_named}
 use Rattle.lxr_c_arrays.proofs.SettleLemmas.{IsReachedBy, Settled}
 
@@ -116,6 +116,34 @@ own_named s b w settled r held refs own = record {
     now : (i : ℕ) → part_of w r i ≡ f (part_of s r i)
     now i = ap (λ v. slice_index_or (unwrap_or v []) i None) refs ∙ named_within names (references_in s r) i
 
+-- what was no part of a root is none by new names
+pub no_part_named : (s b w : LargeState) (settled : Settled s b) (base r : ℕ) → register_at w.small 1 r ≡ as_named settled.names (register_at s.small 1 r)
+    → references_in w base ≡ option_map (map (as_named settled.names)) (references_in s base) → IsNoPart s base r → IsNoPart w base r
+no_part_named s b w settled base r held refs none i n one is =
+    let names = settled.names in
+    let f = as_named names in
+    let now : part_of w base i ≡ f (part_of s base i) = ap (λ v. slice_index_or (unwrap_or v []) i None) refs ∙ named_within names (references_in s base) i in
+    let (a, is_a) = held_named names (part_of s base i) n (sym now ∙ one) in
+    let (c, is_c) = held_named names (register_at s.small 1 r) n (sym held ∙ is) in
+    let same : a ≡ c = settled.one a c (base, reached_part s base i a is_a) (r, inl is_c) (ap f (sym is_a) ∙ sym now ∙ one ∙ sym is ∙ held ∙ ap f is_c) in
+    none i a is_a (is_c ∙ ap (λ q. Some q) (sym same))
+
+-- roots that are apart are so by new names
+pub apart_named : (s b w : LargeState) (settled : Settled s b) (q r : ℕ) → references_in w q ≡ option_map (map (as_named settled.names)) (references_in s q) → register_at w.small 1 r ≡ as_named settled.names (register_at s.small 1 r)
+    → references_in w r ≡ option_map (map (as_named settled.names)) (references_in s r) → AreApart s q r → AreApart w q r
+apart_named s b w settled q r refs held others are = record {
+  root = no_part_named s b w settled q r held refs are.root;
+  parts = λ i j n one two.
+      let names = settled.names in
+      let f = as_named names in
+      let now_q : part_of w q i ≡ f (part_of s q i) = ap (λ v. slice_index_or (unwrap_or v []) i None) refs ∙ named_within names (references_in s q) i in
+      let now_r : part_of w r j ≡ f (part_of s r j) = ap (λ v. slice_index_or (unwrap_or v []) j None) others ∙ named_within names (references_in s r) j in
+      let (a, is_a) = held_named names (part_of s q i) n (sym now_q ∙ one) in
+      let (c, is_c) = held_named names (part_of s r j) n (sym now_r ∙ two) in
+      let same : a ≡ c = settled.one a c (q, reached_part s q i a is_a) (r, reached_part s r j c is_c) (ap f (sym is_a) ∙ sym now_q ∙ one ∙ sym two ∙ now_r ∙ ap f is_c) in
+      are.parts i j a is_a (is_c ∙ ap (λ z. Some z) (sym same));
+}
+
 -- and where the register holds what it held, which refers to what it referred to
 pub own_over : (u w : LargeState) (r : ℕ) → register_at w.small 1 r ≡ register_at u.small 1 r → references_in w r ≡ references_in u r → HasOwnParts u r → HasOwnParts w r
 own_over u w r held refs own = record {
@@ -125,3 +153,13 @@ own_over u w r held refs own = record {
   where
     was : (i : ℕ) → part_of u r i ≡ part_of w r i
     was i = ap (λ v. slice_index_or (unwrap_or v []) i None) (sym refs)
+
+-- so with roots that are apart
+pub apart_over : (u w : LargeState) (q r : ℕ) → references_in w q ≡ references_in u q → register_at w.small 1 r ≡ register_at u.small 1 r → references_in w r ≡ references_in u r → AreApart u q r → AreApart w q r
+apart_over u w q r refs held others are = record {
+  root = λ i n one is. are.root i n (was q refs i ∙ one) (sym held ∙ is);
+  parts = λ i j n one two. are.parts i j n (was q refs i ∙ one) (was r others j ∙ two);
+}
+  where
+    was : (o : ℕ) → references_in w o ≡ references_in u o → (i : ℕ) → part_of u o i ≡ part_of w o i
+    was o same i = ap (λ v. slice_index_or (unwrap_or v []) i None) (sym same)

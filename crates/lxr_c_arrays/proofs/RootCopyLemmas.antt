@@ -1,36 +1,36 @@
 -- A copy between roots replaces the elements, where they are one or apart, and the parts of the one that is written to are its own.
-use Rattle.std.proofs.Common.{◌≡◌, ◌≢◌, ℕ, zero, suc, ◌+◌, ◌*◌, ◌/◌, ◌%◌, ◌<◌, ◌≤◌, ◌⊎◌, ◌∙◌, refl, sym, ap, subst, arith, inl, inr, Bool, true, false, Option, Some, None, List, [], ◌∷◌, ◌++◌, length, map}
-use Rattle.std.specs.Prelude.{◌==◌, min, nat_le, nat_lt, option_map, slice_get, slice_index_or, unwrap_or, if◌then◌else◌, Result, Ok, Err}
-use Rattle.std.proofs.lemmas.Bool.{cases_eq, eq-eqb, leb-true}
-use Rattle.std.proofs.lemmas.Option.{get_or_from_slice_get, same_Some, slice_get_within}
+use Rattle.std.proofs.Common.{◌≡◌, ◌≢◌, ℕ, zero, suc, ◌+◌, ◌*◌, ◌/◌, ◌%◌, ◌<◌, ◌≤◌, ◌⊎◌, ◌∙◌, refl, sym, ap, subst, arith, inl, inr, Bool, true, false, Option, Some, None, List, [], ◌∷◌, length, map}
+use Rattle.std.specs.Prelude.{◌==◌, min, nat_lt, option_map, slice_get, slice_index_or, unwrap_or, if◌then◌else◌, Result, Ok, Err}
+use Rattle.std.proofs.lemmas.Bool.{cases_eq, eq-eqb}
+use Rattle.std.proofs.lemmas.Option.{get_or_from_slice_get, same_Some}
 use Rattle.lxr_layout.specs.declared.Name.{Name}
 use Rattle.lxr_layout.specs.declared.TheConstants.{REGISTERS}
 use Rattle.lxr_graph.specs.State.{object_at, refs_of, register_at, values_of}
 use Rattle.lxr_large_model.specs.History.{LargeItem, large_state}
 use Rattle.lxr_large_model.specs.State.{LargeState}
-use Rattle.lxr_c_base.specs.Requests.{index_of}
 use Rattle.lxr_c_base.specs.declared.codes.Code.{Code}
 use Rattle.lxr_c_base.specs.declared.codes.Code.TheVariants as code
 use Rattle.lxr_c_heap.specs.declared.host.HostHeap.{HostHeap}
 use Rattle.lxr_c_heap.specs.declared.own.OwnRegisters.{OwnRegisters}
 use Rattle.lxr_c_heap.specs.Hosting.{IsHostOf, own_in, registers_in}
 use Rattle.lxr_c_many.specs.Fields.{references_in, words_in}
-use Rattle.lxr_c_many.specs.declared.asked.Asked.{Asked}
 use Rattle.lxr_c_many.proofs.MakingLemmas.{all_registers}
 use Rattle.lxr_c_arrays.specs.declared.copying.Copying.{Copying}
 use Rattle.lxr_c_arrays.specs.declared.registers.Pair.{Pair}
 use Rattle.lxr_c_arrays.specs.declared.side.Side.{Side}
 use Rattle.lxr_c_arrays.specs.declared.side.Side.TheVariants as side
-use Rattle.lxr_c_arrays.specs.Elements.{AreApart, CopiesEnterParts, CopiesReachParts, HasCopiedParts, HasOwnParts, IsNoPart, as_named, as_renamed, element_at, elements_at, elements_of, part_of, references_of, with_renewals}
-use Rattle.lxr_c_arrays.specs.Operations.{load_of, nil_of, store_of}
+use Rattle.lxr_c_arrays.specs.Elements.{AreApart, CopiesEnterParts, CopiesReachParts, HasCopiedParts, HasOwnParts, IsNoPart, as_named, as_renamed, element_at, elements_at, part_of, with_renewals}
+use Rattle.lxr_c_arrays.specs.Operations.{nil_of, store_of}
 use Rattle.lxr_c_arrays.specs.Plans.{CopiesElements, IsPair, check_copy, copy_by, copy_checked, copy_steps, copying, copying_by, enters, planned, round_of}
 use Rattle.lxr_c_arrays.specs.Running.{Carries, Runs, in_turn}
-use Rattle.lxr_c_arrays.specs.Sides.{checks, load_steps, range_held, root_length, store_steps}
-use Rattle.lxr_c_arrays.proofs.CopyLemmas.{Left, Written, all_written, left_before, mapped_at, none_else, range_cases, source_left, written_before}
-use Rattle.lxr_c_arrays.proofs.ElementLemmas.{changed_register, few_registers, load_first, nil_last, root_element, small_index}
-use Rattle.lxr_c_arrays.proofs.FillLemmas.{as_many, named_at, named_lists, named_with, reference_at, renewals_with, renewed_bodies, same_reference, whole_at}
+use Rattle.lxr_c_arrays.specs.Sides.{checks, range_held, root_length, store_steps}
+use Rattle.lxr_c_arrays.proofs.CopyLemmas.{IsRooted, IsSideOf, Left, Takes, Written, all_written, checks_beside, element_loaded, left_before, none_else, range_cases, rooted_cases, round_small, source_left, takes_object, takes_root, written_before}
+use Rattle.lxr_c_arrays.proofs.ElementLemmas.{changed_register, few_registers, load_first, nil_last}
+use Rattle.lxr_c_arrays.proofs.FillLemmas.{as_many, named_at, named_lists, named_with, renewals_with, renewed_bodies, same_reference}
+use Rattle.lxr_c_arrays.proofs.LeftLemmas.{all_listed, mapped_at, rooted, same_object, whole_at}
 use Rattle.lxr_c_arrays.proofs.PlanLemmas.{own_first, own_second, own_there}
-use Rattle.lxr_c_arrays.proofs.RootFillLemmas.{Beside, all_listed, at_hand_after, beside_none, beside_on, beside_with, checks_load, from_apart, from_element, from_root, kept_element, loads_beside, mapped_many, no_part_after, or_false, others_own, own_after, references_after, references_root, rooted, same_apart, same_element, same_no_part, same_own, same_part, same_refs, same_renewals, same_root, same_words, stored_element, words_after, words_root}
+use Rattle.lxr_c_arrays.proofs.RootFillLemmas.{Beside, StaysApart, at_hand_after, beside_none, beside_with, checks_load, kept_element, loads_beside, mapped_many, no_part_after, or_false, others_own, own_after, references_after, references_root, same_apart, same_element, same_no_part, same_own, same_part, same_refs, same_renewals, same_root, same_words, stays_after, stays_beside, stays_same, stored_element, words_after, words_root}
+use Rattle.lxr_c_arrays.proofs.ReachLemmas.{apart_named}
 use Rattle.lxr_c_arrays.proofs.RunLemmas.{runs_apart, runs_host}
 use Rattle.lxr_c_arrays.proofs.SettleLemmas.{Settled, same_references}
 use Rattle.lxr_c_arrays.proofs.StoreLemmas.{SetReference, bodies_now, registers_now, root_by, store_first}
@@ -44,13 +44,11 @@ data IsSource (second : ℕ) (pair : Pair) (s : LargeState) (from : Side) : Type
       → (register_at s.small 1 pair.other ≡ register_at s.small 1 pair.array) ⊎ AreApart s pair.array pair.other → IsSource second pair s from
   of_object : from ≡ side.Whole pair.other → root_length s pair.other ≡ None → IsNoPart s pair.array pair.other → IsSource second pair s from
 
--- ---- what is copied so far
+source_side : (second : ℕ) (pair : Pair) (s : LargeState) (from : Side) → IsSource second pair s from → IsSideOf second pair.other from
+source_side second pair s from (of_root all is plain related) = inr is
+source_side second pair s from (of_object is plain none) = inl is
 
--- another root has what it had, and is apart still
-record Keeps (from array : ℕ) (renewals : List (List Name)) (s u : LargeState) : Type 0 where
-  are : AreApart u array from
-  root : root_length u from ≡ root_length s from
-  elements : (i : ℕ) → element_at u from i ≡ option_map (as_renamed renewals) (element_at s from i)
+-- ---- what is copied so far
 
 -- rounds of a copy were done, the last of which wrote to this element: its part is at hand in the register `own`
 record Copies (registers own at first : ℕ) (Wrote Stays Last : ℕ → Type 0) (pair : Pair) (s u : LargeState) : Type 0 where
@@ -62,17 +60,13 @@ record Copies (registers own at first : ℕ) (Wrote Stays Last : ℕ → Type 0)
   at_hand : (i : ℕ) → Last i → register_at u.small 1 own ≡ part_of u pair.array (i / 1023)
   copied : (i : ℕ) → Wrote (at + i) → element_at u pair.array (at + i) ≡ option_map (as_renamed renewals) (element_at s pair.other (first + i))
   others : (i : ℕ) → Stays i → element_at u pair.array i ≡ option_map (as_renamed renewals) (element_at s pair.array i)
-  other : (all : ℕ) → root_length s pair.other ≡ Some all → AreApart s pair.array pair.other → Keeps pair.other pair.array renewals s u
+  other : (r all : ℕ) → r < registers → root_length s r ≡ Some all → AreApart s pair.array r → StaysApart pair.array r renewals s u
   no_part : (r : ℕ) → r < registers → IsNoPart s pair.array r → IsNoPart u pair.array r
   references : (r : ℕ) → r < registers → IsNoPart s pair.array r → references_in u r ≡ option_map (map (as_renamed renewals)) (references_in s r)
   words_of : (r : ℕ) → r < registers → IsNoPart s pair.array r → words_in u r ≡ words_in s r
   own_others : (r : ℕ) → r < registers → IsNoPart s pair.array r → HasOwnParts s r → HasOwnParts u r
+  apart : (q r : ℕ) → q < registers → r < registers → IsNoPart s pair.array q → IsNoPart s pair.array r → AreApart s q r → AreApart u q r
   bodies : u.large ≡ (with_renewals renewals s).large
-
--- what two registers refer to that hold one object
-same_object : (s : LargeState) (q r i : ℕ) → register_at s.small 1 q ≡ register_at s.small 1 r → element_at s q i ≡ element_at s r i
-same_object s q r i same =
-    ap (λ v. slice_get (unwrap_or (option_map (λ rs. elements_of s.small.graph rs (option_map (λ w. min w 1046529) (slice_get (unwrap_or (option_map (λ n. values_of (object_at s.small.graph n)) v) []) 0))) (option_map (λ n. refs_of (object_at s.small.graph n)) v)) []) i) same
 
 module _ (registers own at first : ℕ) (Wrote Stays Last : ℕ → Type 0) (pair : Pair) (s u : LargeState) (fits : IsPair registers pair) (copies : Copies registers own at first Wrote Stays Last pair s u) where
   -- an element that is still to be copied is what it was
@@ -84,7 +78,7 @@ module _ (registers own at first : ℕ) (Wrote Stays Last : ℕ → Type 0) (pai
   source_kept second from (of_root all is plain (inl same)) j stays =
       same_object u pair.other pair.array j (copies.held pair.other fits.1 ∙ ap (as_renamed copies.renewals) same ∙ sym (copies.held pair.array fits.0)) ∙ copies.others j stays
       ∙ ap (option_map (as_renamed copies.renewals)) (sym (same_object s pair.other pair.array j same))
-  source_kept second from (of_root all is plain (inr are)) j stays = (copies.other all plain are).elements j
+  source_kept second from (of_root all is plain (inr are)) j stays = (copies.other pair.other all fits.1 plain are).elements j
 
   -- and so is all, where another register of the library's got something
   copies_beside : (second : ℕ) (t : LargeState) → registers ≤ second → own ≢ second → Beside second u t → Copies registers own at first Wrote Stays Last pair s t
@@ -101,13 +95,12 @@ module _ (registers own at first : ℕ) (Wrote Stays Last : ℕ → Type 0) (pai
         at_hand = λ i last. by.registers own differs ∙ copies.at_hand i last ∙ sym (same_part second u t by pair.array (i / 1023) array);
         copied = λ i wrote. same_element second u t by pair.array (at + i) array ∙ copies.copied i wrote;
         others = λ i stays. same_element second u t by pair.array i array ∙ copies.others i stays;
-        other = λ all plain are.
-            let kept = copies.other all plain are in
-            record { are = same_apart second u t by pair.array pair.other array from kept.are; root = same_root second u t by pair.other from ∙ kept.root; elements = λ i. same_element second u t by pair.other i from ∙ kept.elements i };
+        other = λ r all less is are. stays_beside second pair.array r copies.renewals s u t by array (apart r less) (copies.other r all less is are);
         no_part = λ r less none. same_no_part second u t by pair.array r array (apart r less) (copies.no_part r less none);
         references = λ r less none. same_refs second u t by r (apart r less) ∙ copies.references r less none;
         words_of = λ r less none. same_words second u t by r (apart r less) ∙ copies.words_of r less none;
         own_others = λ r less none was. same_own second u t by r (apart r less) (copies.own_others r less none was);
+        apart = λ q r less few none out are. same_apart second u t by q r (apart q less) (apart r few) (copies.apart q r less few none out are);
         bodies = by.bodies ∙ copies.bodies;
       }
 
@@ -167,17 +160,9 @@ module _ (registers own second at first n elements : ℕ) (Wrote Stays Last : �
       | inr differs ↦ kept (at + i) differs ∙ ap (option_map g) (copies.copied i (before (at + i) more differs)) ∙ named_at settled.names copies.renewals (element_at s pair.other (first + i))
     ];
     others = λ i less. kept i (behind i less).0 ∙ ap (option_map g) (copies.others i (behind i less).1) ∙ named_at settled.names copies.renewals (element_at s array i);
-    other = λ all plain are.
-        let kept = copies.other all plain are in
-        let from = own_apart pair.other fits.1 in
-        let is_v : root_length v pair.other ≡ Some all = same_root own u v by pair.other from ∙ kept.root ∙ plain in
-        let are_v = same_apart own u v by array pair.other array_own from kept.are in
-        record {
-          are = from_apart v b w own array ((at + n) / 1023) ((at + n) % 1023) second elements settled set root_v own_v hand pair.other all is_v are_v;
-          root = from_root v b w own array ((at + n) / 1023) ((at + n) % 1023) second elements settled set root_v own_v hand pair.other all is_v are_v ∙ sym plain;
-          elements = λ i. from_element v b w own array ((at + n) / 1023) ((at + n) % 1023) second elements settled set root_v own_v hand pair.other all is_v are_v i
-              ∙ ap (option_map g) (same_element own u v by pair.other i from ∙ kept.elements i) ∙ named_at settled.names copies.renewals (element_at s pair.other i);
-        };
+    other = λ r all less is are.
+        stays_after s v b w own array ((at + n) / 1023) ((at + n) % 1023) second elements r all copies.renewals settled set root_v own_v hand is
+        (stays_beside own array r copies.renewals s u v by array_own (own_apart r less) (copies.other r all less is are));
     no_part = λ r less none.
         no_part_after v b w own array ((at + n) / 1023) ((at + n) % 1023) second elements settled set root_v own_v hand r (same_no_part own u v by array r array_own (own_apart r less) (copies.no_part r less none));
     references = λ r less none.
@@ -189,6 +174,12 @@ module _ (registers own second at first n elements : ℕ) (Wrote Stays Last : �
     own_others = λ r less none was.
         others_own v b w own array ((at + n) / 1023) ((at + n) % 1023) second elements settled set root_v own_v hand r (same_no_part own u v by array r array_own (own_apart r less) (copies.no_part r less none))
         (same_own own u v by r (own_apart r less) (copies.own_others r less none was));
+    apart = λ q r less few none out are.
+        let none_q = same_no_part own u v by array q array_own (own_apart q less) (copies.no_part q less none) in
+        let none_r = same_no_part own u v by array r array_own (own_apart r few) (copies.no_part r few out) in
+        apart_named v b w settled q r (references_after v b w own array ((at + n) / 1023) ((at + n) % 1023) second elements settled set root_v own_v hand q none_q)
+        (registers_now v b own ((at + n) % 1023) second settled w set r) (references_after v b w own array ((at + n) / 1023) ((at + n) % 1023) second elements settled set root_v own_v hand r none_r)
+        (same_apart own u v by q r (own_apart q less) (own_apart r few) (copies.apart q r less few none out are));
     bodies = bodies_now v b own ((at + n) % 1023) second settled w set ∙ renewed_bodies settled.names copies.renewals s v (by.bodies ∙ copies.bodies);
   }
 
@@ -204,10 +195,6 @@ same_part_next : (up : Bool) (at count n : ℕ) → suc n < count → ((at + rou
 same_part_next true at count n less border = omega (arith, less, border)
 same_part_next false at count n less border = omega (arith, less, border)
 
-round_small : (up : Bool) (count n : ℕ) → n < count → round_of up count n < count
-round_small true count n less = omega (arith, less)
-round_small false count n less = less
-
 none_copied : (registers own at first count : ℕ) (up : Bool) (pair : Pair) (s : LargeState) → HasOwnParts s pair.array → Copies registers own at first (Written up at count 0) (Left up at count 0) (LastOf up at count 0) pair s s
 none_copied registers own at first count up pair s own_parts = record {
   renewals = [];
@@ -218,11 +205,12 @@ none_copied registers own at first count up pair s own_parts = record {
   at_hand = λ i last. absurd last;
   copied = λ i wrote. absurd (none_written up (at + i) wrote);
   others = λ i stays. same_reference (element_at s pair.array i);
-  other = λ all plain are. record { are = are; root = refl; elements = λ i. same_reference (element_at s pair.other i) };
+  other = λ r all less is are. stays_same pair.array r s are;
   no_part = λ r less none. none;
   references = λ r less none. same_references (references_in s r);
   words_of = λ r less none. refl;
   own_others = λ r less none was. was;
+  apart = λ q r less few none out are. are;
   bodies = refl;
 }
   where
@@ -254,7 +242,7 @@ module _ (registers at first count elements : ℕ) (pair : Pair) (own second : �
 
   source_root : (n all : ℕ) (s u : LargeState) → root_length s pair.other ≡ Some all → (register_at s.small 1 pair.other ≡ register_at s.small 1 pair.array) ⊎ AreApart s pair.array pair.other → Copied n s u
       → root_length u pair.other ≡ Some all
-  source_root n all s u plain (inr are) copies = (copies.other all plain are).root ∙ plain
+  source_root n all s u plain (inr are) copies = (copies.other pair.other all fits.1 plain are).root ∙ plain
   source_root n all s u plain (inl same) copies =
       let now : register_at u.small 1 pair.other ≡ register_at u.small 1 pair.array = copies.held pair.other fits.1 ∙ ap (as_renamed copies.renewals) same ∙ sym (copies.held pair.array fits.0) in
       root_by s u pair.other (ap (option_map (λ a. values_of (object_at u.small.graph a))) now ∙ copies.words ∙ sym (ap (option_map (λ a. values_of (object_at s.small.graph a))) same)) ∙ plain
@@ -298,61 +286,14 @@ module _ (registers at first count elements : ℕ) (pair : Pair) (own second : �
       let border : i % 1023 ≢ (if up then 1022 else 0) = λ same. let yes : (i % 1023 == (if up then 1022 else 0)) ≡ true = eq-eqb (i % 1023) (if up then 1022 else 0) same in absurd (let no = none.1 in cc) in
       at_hand_round s t (suc n) value m y j k roots less is (beside_none own t) (copies.at_hand (at + round_of up count n) refl ∙ ap (part_of t pair.array) (same_part_next up at count n less border)) has copies was runs
 
-  -- an element of what is copied from was loaded to the second register
-  record Loaded (m y : HostHeap) (j k : List LargeItem) (i : ℕ) (put : List Asked) : Type 0 where
-    heap : HostHeap
-    history : List LargeItem
-    host : IsHostOf heap history
-    got : Option Name
-    by : Beside second (large_state j) (large_state history)
-    held : register_at (large_state history).small 1 second ≡ got
-    value : element_at (large_state j) pair.other i ≡ Some got
-    rest : Runs heap history put y k code.Done
+  -- what is copied from is what it was
+  source_now : (n : ℕ) (s u : LargeState) → Copied n s u → IsSource second pair s from → Takes second pair.other u from
+  source_now n s u copies (of_object is plain none) = takes_object is (root_by s u pair.other (copies.words_of pair.other fits.1 none) ∙ plain)
+  source_now n s u copies (of_root all is plain related) = takes_root all is (source_root n all s u plain related copies)
 
-  source_loaded : (m y : HostHeap) (j k : List LargeItem) (n i : ℕ) (s : LargeState) → IsHostOf m j → Copied n s (large_state j) → IsSource second pair s from → ((all : ℕ) → root_length s pair.other ≡ Some all → i < all)
-      → (put : List Asked) → Runs m j (load_steps from second i ++ put) y k code.Done → Loaded m y j k i put
-  source_loaded m y j k n i s host copies (of_object is plain none) within put runs =
-      let u : LargeState = large_state j in
-      let other = fits.1 in
-      let loads = load_first m y j k second pair.other (index_of i) put host (subst (λ a. Runs m j (load_steps a second i ++ put) y k code.Done) is runs) in
-      let got = loads.got in
-      let v = got.value in
-      let plain_u : root_length u pair.other ≡ None = root_by s u pair.other (copies.words_of pair.other fits.1 none) ∙ plain in
-      let at_first : index_of i ≡ i =
-      small_index m j pair.other i got.name host (omega (arith, other, one, two, room)) got.held (slice_get_within (refs_of (object_at u.small.graph got.name)) (index_of i) v got.there) in
-      let there : reference_at u pair.other i ≡ Some v =
-      ap (λ q. slice_get (unwrap_or (option_map (λ a. refs_of (object_at u.small.graph a)) q) []) i) got.held ∙ ap (slice_get (refs_of (object_at u.small.graph got.name))) (sym at_first) ∙ got.there in
-      record {
-        heap = loads.heap;
-        history = loads.history;
-        host = loads.host;
-        got = v;
-        by = beside_with second u (large_state loads.history) v got.after;
-        held = ap (λ (z : LargeState). register_at z.small 1 second) got.after ∙ changed_register u.small second v (all_registers m.heap j host.heap) room;
-        value = whole_at u pair.other i plain_u ∙ there;
-        rest = loads.rest;
-      }
-  source_loaded m y j k n i s host copies (of_root all is plain related) within put runs =
-      let u : LargeState = large_state j in
-      let part = load_first m y j k second pair.other (i / 1023) (load_of second second (i % 1023) ∷ put) host (subst (λ a. Runs m j (load_steps a second i ++ put) y k code.Done) is runs) in
-      let element = load_first part.heap y part.history k second second (i % 1023) put part.host part.rest in
-      let p : LargeState = large_state part.history in
-      let t : LargeState = large_state element.history in
-      let v = element.got.value in
-      let at_hand : part.got.value ≡ Some element.got.name =
-      sym (ap (λ (z : LargeState). register_at z.small 1 second) part.got.after ∙ changed_register u.small second part.got.value (all_registers m.heap j host.heap) room) ∙ element.got.held in
-      let there : slice_get (references_of u.small.graph part.got.value) (i % 1023) ≡ Some v =
-      ap (λ q. slice_get (references_of u.small.graph q) (i % 1023)) at_hand ∙ sym (ap (λ (z : LargeState). slice_get (refs_of (object_at z.small.graph element.got.name)) (i % 1023)) part.got.after) ∙ element.got.there in
-      record {
-        heap = element.heap;
-        history = element.history;
-        host = element.host;
-        got = v;
-        by = beside_on second u p t (beside_with second u p part.got.value part.got.after) (beside_with second p t v element.got.after);
-        held = ap (λ (z : LargeState). register_at z.small 1 second) element.got.after ∙ changed_register p.small second v (all_registers part.heap.heap part.history part.host.heap) room;
-        value = root_element u pair.other i all part.got.name part.got.value v (source_root n all s u plain related copies) (let below = within all plain in omega (arith, below)) part.got.held part.got.there there;
-        rest = element.rest;
-      }
+  source_many : (n all : ℕ) (s u : LargeState) → Copied n s u → IsSource second pair s from → root_length u pair.other ≡ Some all → root_length s pair.other ≡ Some all
+  source_many n all s u copies (of_object is plain none) now = sym (root_by s u pair.other (copies.words_of pair.other fits.1 none)) ∙ now
+  source_many n all s u copies (of_root others is plain related) now = plain ∙ sym (source_root n others s u plain related copies) ∙ now
 
   copy_rounds : (x y : HostHeap) (h k : List LargeItem) (n : ℕ) → IsHostOf x h → Roots (large_state h) → n ≤ count → Runs x h (in_turn (copy_steps c) n) y k code.Done → Copied n (large_state h) (large_state k)
   unfolding copies_beside
@@ -365,22 +306,15 @@ module _ (registers at first count elements : ℕ) (pair : Pair) (own second : �
       let copies = copy_rounds x m h j n is roots (omega (arith, few)) before in
       let less : n < count = omega (arith, few) in
       let small = round_small up count n less in
-      let loads = source_loaded m y j k n (first + round_of up count n) s host copies roots.source (λ all plain. let loaded = roots.loaded all plain in omega (arith, small, loaded))
+      let other = fits.1 in
+      let loads = element_loaded m y j k second pair.other (first + round_of up count n) from host (omega (arith, other, one, two, room)) room (source_now n s u copies roots.source)
+      (λ all plain. let loaded = roots.loaded all (source_many n all s u copies roots.source plain) in omega (arith, small, loaded))
       (store_steps (side.Parts pair.array own) (enters up n (at + round_of up count n)) (at + round_of up count n) second) last in
       let was = sym loads.value ∙ source_kept registers own at first (Written up at count n) (Left up at count n) (LastOf up at count n) pair s u fits copies second from roots.source (first + round_of up count n) (source_left up at first count n refl less) in
       let copies_t = copies_beside registers own at first (Written up at count n) (Left up at count n) (LastOf up at count n) pair s u fits copies second (large_state loads.history) (omega (arith, two)) (λ e. differs (sym e)) loads.by in
       at_enters s n loads.got loads.heap y loads.history k roots less loads.host loads.held copies_t was (enters up n (at + round_of up count n)) refl loads.rest
 
 -- ---- the call
-
--- the checks of what is copied from load to the second register alone
-checks_beside : (x y : HostHeap) (h k : List LargeItem) (second first count : ℕ) (pair : Pair) (s : LargeState) (from : Side) → IsHostOf x h → IsSource second pair s from → Runs x h (checks from first count) y k code.Done
-    → Beside second (large_state h) (large_state k)
-checks_beside x y h k second first count pair s from is (of_root all same plain related) runs =
-    loads_beside x y h k second (checks (side.Parts pair.other second) first count) is (checks_load pair.other second first count) (subst (λ a. Runs x h (checks a first count) y k code.Done) same runs)
-checks_beside x y h k second first count pair s from is (of_object same plain none) runs =
-    let (stays, left, done) = subst (λ a. Runs x h (checks a first count) y k code.Done) same runs in
-    subst (λ l. Beside second (large_state h) (large_state l)) (sym left) (beside_none second (large_state h))
 
 copied : (x m y : HostHeap) (h j k : List LargeItem) (at first count elements : ℕ) (pair : Pair) (own : OwnRegisters) (source : Side) (tos : List (Option Name)) → IsHostOf x h → IsPair (registers_in x) pair → own_in x ≡ Some own
     → root_length (large_state h) pair.array ≡ Some elements → references_in (large_state h) pair.array ≡ Some tos
@@ -408,7 +342,7 @@ copied x m y h j k at first count elements pair own source tos is fits has root 
     let host1 = runs_host x m1 h l1 to_checks code.Done is checked_to in
     let host2 = runs_host m1 m2 l1 l2 from_checks code.Done host1 checked_from in
     let by1 = loads_beside x m1 h l1 a to_checks is (checks_load pair.array a at count) checked_to in
-    let by2 = checks_beside m1 m2 l1 l2 b first count pair s source host1 is_source checked_from in
+    let by2 = checks_beside m1 m2 l1 l2 b pair.other first count source (source_side b pair s source is_source) host1 checked_from in
     let apart_a : (r : ℕ) → r < registers → r ≢ a = λ r less e. omega (arith, e, one, less) in
     let apart_b : (r : ℕ) → r < registers → r ≢ b = λ r less e. omega (arith, e, two, less) in
     let array_a = apart_a pair.array fits.0 in
@@ -463,30 +397,15 @@ copied x m y h j k at first count elements pair own source tos is fits has root 
         own = λ r less none was.
             let was_t = same_own b s1 t by2 r (apart_b r less) (same_own a s s1 by1 r (apart_a r less) was) in
             same_own b w1 w off2 r (apart_b r less) (same_own a u w1 off1 r (apart_a r less) (copies.own_others r less (no_part_t r less none) was_t));
+        roots = λ r all i less is are.
+            let are_t = same_apart b s1 t by2 pair.array r array_b (apart_b r less) (same_apart a s s1 by1 pair.array r array_a (apart_a r less) are) in
+            same_element b w1 w off2 r i (apart_b r less) ∙ same_element a u w1 off1 r i (apart_a r less) ∙ (copies.other r all less (root_by s t r (words_t r less) ∙ is) are_t).elements i ∙ ap (option_map f) (element_t r i less);
+        apart = λ q r less few none out are.
+            let are_t = same_apart b s1 t by2 q r (apart_b q less) (apart_b r few) (same_apart a s s1 by1 q r (apart_a q less) (apart_a r few) are) in
+            same_apart b w1 w off2 q r (apart_b q less) (apart_b r few) (same_apart a u w1 off1 q r (apart_a q less) (apart_a r few) (copies.apart q r less few (no_part_t q less none) (no_part_t r few out) are_t));
         bodies = off2.bodies ∙ off1.bodies ∙ copies.bodies ∙ same_renewals copies.renewals s t (by2.bodies ∙ by1.bodies);
       },
     )
-
--- a range of a root is there, or its code isn't that of success
-record IsRooted (array part all end : ℕ) (v : Option (List (Option Name))) (r : Result Side Code) : Type 0 where
-  parts : List (Option Name)
-  there : v ≡ Some parts
-  same : r ≡ Ok (side.Parts array part)
-  within : end ≤ min all (1023 * length parts)
-
-rooted_cases : (v : Option (List (Option Name))) (root : Option ℕ) (all part array end : ℕ) → root ≡ Some all
-    → IsRooted array part all end v (range_held (option_map length v) root (Some part) array end) ⊎ ((e : Code) × (e ≢ code.Done) × (range_held (option_map length v) root (Some part) array end ≡ Err e))
-rooted_cases v root all part array end is =
-    subst (λ r. IsRooted array part all end v (range_held (option_map length v) r (Some part) array end) ⊎ ((e : Code) × (e ≢ code.Done) × (range_held (option_map length v) r (Some part) array end ≡ Err e))) (sym is) (at_references v)
-  where
-    at_room : (ps : List (Option Name)) (b : Bool) → nat_le end (min all (1023 * length ps)) ≡ b
-        → IsRooted array part all end (Some ps) (if b then Ok (side.Parts array part) else Err code.Index) ⊎ ((e : Code) × (e ≢ code.Done) × ((if b then Ok (side.Parts array part) else Err code.Index) ≡ Err e))
-    at_room ps true there = inl (record { parts = ps; there = refl; same = refl; within = leb-true end (min all (1023 * length ps)) there })
-    at_room ps false over = inr (code.Index, (λ same. cc), refl)
-
-    at_references : (z : Option (List (Option Name))) → IsRooted array part all end z (range_held (option_map length z) (Some all) (Some part) array end) ⊎ ((e : Code) × (e ≢ code.Done) × (range_held (option_map length z) (Some all) (Some part) array end ≡ Err e))
-    at_references None = inr (code.Nil, (λ same. cc), refl)
-    at_references (Some ps) = at_room ps (nat_le end (min all (1023 * length ps))) refl
 
 module _ (x y : HostHeap) (h : List LargeItem) (at first count elements : ℕ) (pair : Pair) (is : IsHostOf x h) (fits : IsPair (registers_in x) pair) (root : root_length (large_state h) pair.array ≡ Some elements)
     (own_parts : HasOwnParts (large_state h) pair.array) where

@@ -1,11 +1,9 @@
 -- A fill of a root replaces the elements, where its parts are its own.
 use Rattle.std.proofs.Common.{◌≡◌, ◌≢◌, ℕ, zero, suc, ◌+◌, ◌-◌, ◌*◌, ◌/◌, ◌%◌, ◌<◌, ◌≤◌, ◌⊎◌, ◌∙◌, refl, sym, ap, subst, arith, inl, inr, Bool, true, false, Option, Some, None, List, [], ◌∷◌, ◌++◌, length, map}
 use Rattle.std.specs.Prelude.{⊤, ◌==◌, ◌||◌, min, nat_le, option_map, slice_get, slice_index_or, slice_set, unwrap_or, if◌then◌else◌, Ok, Err}
-use Rattle.std.specs.List.{range_with_len}
-use Rattle.std.proofs.lemmas.Bool.{cases_eq, cases_lt, eq-eqb, leb-true}
-use Rattle.std.proofs.lemmas.List.{get_or_past, get_or-set_other, get_or-set_same, length-map}
-use Rattle.std.proofs.lemmas.List.FromFn.{get_or-map-range_with_len, length-map-range_with_len}
-use Rattle.std.proofs.lemmas.Option.{get_or_from_slice_get, same_Some, slice_get-get_or, slice_get_past}
+use Rattle.std.proofs.lemmas.Bool.{cases_eq, eq-eqb, leb-true}
+use Rattle.std.proofs.lemmas.List.{get_or-set_other, get_or-set_same, length-map}
+use Rattle.std.proofs.lemmas.Option.{get_or_from_slice_get, same_Some}
 use Rattle.lxr_layout.specs.declared.Name.{Name}
 use Rattle.lxr_layout.specs.declared.TheConstants.{REGISTERS}
 use Rattle.lxr_graph.specs.State.{object_at, refs_of, register_at, values_of, with_register}
@@ -20,51 +18,19 @@ use Rattle.lxr_c_many.specs.declared.asked.Asked.{Asked}
 use Rattle.lxr_c_many.proofs.MakingLemmas.{all_registers}
 use Rattle.lxr_c_arrays.specs.declared.registers.Pair.{Pair}
 use Rattle.lxr_c_arrays.specs.declared.side.Side.TheVariants as side
-use Rattle.lxr_c_arrays.specs.Elements.{AreApart, FillsReachParts, HasFilledParts, HasOwnParts, IsNoPart, as_named, as_renamed, element_at, element_in, elements_at, elements_of, part_of, references_of, with_renewals}
+use Rattle.lxr_c_arrays.specs.Elements.{AreApart, FillsReachParts, HasFilledParts, HasOwnParts, IsNoPart, as_named, as_renamed, element_at, element_in, elements_of, part_of, references_of, with_renewals}
 use Rattle.lxr_c_arrays.specs.Operations.{load_of, nil_of, store_of}
 use Rattle.lxr_c_arrays.specs.Plans.{IsPair, enters, fill_steps, filling, first_own, planned}
 use Rattle.lxr_c_arrays.specs.Running.{Carries, Runs, in_turn}
 use Rattle.lxr_c_arrays.specs.Sides.{check_steps, checks, last_in, parts_between, parts_side, range_held, root_length, store_steps}
 use Rattle.lxr_c_arrays.proofs.ElementLemmas.{changed_register, few_registers, load_first, nil_last, other_register}
 use Rattle.lxr_c_arrays.proofs.FillLemmas.{named_at, named_lists, named_with, renewals_with, renewed_bodies, same_reference}
-use Rattle.lxr_c_arrays.proofs.OwnLemmas.{nil_named}
+use Rattle.lxr_c_arrays.proofs.LeftLemmas.{all_listed, element_kept, object_left, root_inside, rooted}
 use Rattle.lxr_c_arrays.proofs.PlanLemmas.{own_first, own_there}
-use Rattle.lxr_c_arrays.proofs.ReachLemmas.{found_at, held_named, named_in, named_within, nameless, own_named, own_over}
+use Rattle.lxr_c_arrays.proofs.ReachLemmas.{apart_named, found_at, held_named, named_in, named_within, no_part_named, own_named, own_over}
 use Rattle.lxr_c_arrays.proofs.RunLemmas.{runs_apart, runs_host}
 use Rattle.lxr_c_arrays.proofs.SettleLemmas.{IsReached, Settled, named_bodies, same_references}
-use Rattle.lxr_c_arrays.proofs.StoreLemmas.{SetReference, beside, bodies_now, changed_now, references_beside, references_were, registers_now, root_by, store_first, words_beside}
-
--- ---- elements of a root
-
-module _ (s : LargeState) (base elements i : ℕ) (parts : List (Option Name)) (root : root_length s base ≡ Some elements) (there : references_in s base ≡ Some parts) where
-  abbrev pub count : ℕ
-  count = min elements (1023 * length parts)
-
-  pub listed : elements_at s base ≡ Some (map (element_in s.small.graph parts) (range_with_len 0 count))
-  listed = ap (λ r. option_map (λ rs. elements_of s.small.graph rs r) (references_in s base)) root ∙ ap (option_map (λ rs. elements_of s.small.graph rs (Some elements))) there
-
-  pub all_listed : length (unwrap_or (elements_at s base) []) ≡ count
-  all_listed = ap (λ v. length (unwrap_or v [])) listed ∙ length-map-range_with_len (element_in s.small.graph parts) 0 count
-
-  root_inside : i < count → element_at s base i ≡ Some (element_in s.small.graph parts i)
-  root_inside less =
-      let long = length-map-range_with_len (element_in s.small.graph parts) 0 count in
-      ap (λ v. slice_get (unwrap_or v []) i) listed
-      ∙ slice_get-get_or (map (element_in s.small.graph parts) (range_with_len 0 count)) i None (omega (arith, less, long))
-      ∙ ap (λ v. Some v) (get_or-map-range_with_len (element_in s.small.graph parts) 0 count i i None less (let same : 0 + i ≡ i = omega arith in same))
-
-  root_outside : count ≤ i → element_at s base i ≡ None
-  root_outside over =
-      let long = length-map-range_with_len (element_in s.small.graph parts) 0 count in
-      ap (λ v. slice_get (unwrap_or v []) i) listed ∙ slice_get_past (map (element_in s.small.graph parts) (range_with_len 0 count)) i (omega (arith, over, long))
-
--- a root has an object, and so references
-pub rooted : (s : LargeState) (base elements : ℕ) → root_length s base ≡ Some elements → (n : Name) × (register_at s.small 1 base ≡ Some n)
-rooted s base elements root = at_held (register_at s.small 1 base) refl root
-  where
-    at_held : (v : Option Name) → register_at s.small 1 base ≡ v → option_map (λ w. min w 1046529) (slice_get (unwrap_or (option_map (λ n. values_of (object_at s.small.graph n)) v) []) 0) ≡ Some elements → (n : Name) × (register_at s.small 1 base ≡ Some n)
-    at_held None e none = absurd (cc)
-    at_held (Some n) e same = (n, e)
+use Rattle.lxr_c_arrays.proofs.StoreLemmas.{SetReference, bodies_now, changed_now, references_beside, references_were, registers_now, root_by, store_first, words_beside}
 
 -- ---- one store
 
@@ -135,11 +101,7 @@ module _ (s b w : LargeState) (own array p k source elements : ℕ) (settled : S
 
   -- what was no part is none
   pub no_part_after : (r : ℕ) → IsNoPart s array r → IsNoPart w array r
-  no_part_after r none i n one held =
-      let (a, is_a) = held_named names (part_of s array i) n (sym (part_after i) ∙ one) in
-      let (c, is_c) = held_named names (register_at s.small 1 r) n (sym (held_after r) ∙ held) in
-      let same : a ≡ c = settled.one a c (reached i a is_a) (r, inl is_c) (ap f (sym is_a) ∙ sym (part_after i) ∙ one ∙ sym held ∙ held_after r ∙ ap f is_c) in
-      none i a is_a (is_c ∙ ap (λ q. Some q) (sym same))
+  no_part_after r none = no_part_named s b w settled array r (held_after r) references_root none
 
   beside_part : (r : ℕ) → IsNoPart s array r → register_at b.small 1 r ≢ register_at b.small 1 own
   beside_part r none e = none p part_name part_is (settled.apart r own e ∙ part_held.1)
@@ -175,45 +137,10 @@ module _ (s b w : LargeState) (own array p k source elements : ℕ) (settled : S
 
   -- another object that is reached has what it had
   other_object : (v : Option Name) (j : ℕ) → ((q : Name) → v ≡ Some q → IsReached s q × (q ≢ part_name)) → slice_index_or (references_of w.small.graph (f v)) j None ≡ f (slice_index_or (references_of s.small.graph v) j None)
-  other_object None j reach =
-      let none : slice_index_or {A = Option Name} [] j None ≡ None = get_or_past [] j None (omega arith) in
-      ap (λ q. slice_index_or (references_of w.small.graph q) j None) (nil_named names) ∙ none ∙ sym (nil_named names) ∙ ap f (sym none)
-  other_object (Some q) j reach = at_name (f (Some q)) refl
-    where
-      at_name : (v : Option Name) → f (Some q) ≡ v → slice_index_or (references_of w.small.graph (f (Some q))) j None ≡ f (slice_index_or (references_of s.small.graph (Some q)) j None)
-      at_name None none = absurd (nameless names q none)
-      at_name (Some n) is =
-          let there = reach q refl in
-          let differs : Some n ≢ register_at b.small 1 own = λ same. there.1 (settled.one q part_name there.0 (reached p part_name part_is) (is ∙ same ∙ set.held ∙ sym part_now)) in
-          ap (λ v. slice_index_or (references_of w.small.graph v) j None) is
-          ∙ ap (λ o. slice_index_or (refs_of o) j None) (beside s b own k source settled w set n (Some n) differs refl)
-          ∙ ap (λ v. slice_index_or (references_of b.small.graph v) j None) (sym is)
-          ∙ ap (λ vs. slice_index_or vs j None) (settled.refs q there.0)
-          ∙ named_in names (references_of s.small.graph (Some q)) j
+  other_object v j reach = object_left s b w own k source settled set v j (λ q e. ((reach q e).0, λ held. (reach q e).1 (same_Some q part_name (sym held ∙ part_held.1))))
 
   other_part : (i j : ℕ) → i ≢ p → slice_index_or (references_of w.small.graph (f (part_of s array i))) j None ≡ f (slice_index_or (references_of s.small.graph (part_of s array i)) j None)
   other_part i j other = other_object (part_of s array i) j (λ q e. (reached i q e, λ same. other (own_parts.distinct i p q e (part_is ∙ ap (λ c. Some c) (sym same)))))
-
-  -- an element of a root is what it was where what it stands in has what it had
-  element_kept : (base all i : ℕ) → root_length s base ≡ Some all → references_in w base ≡ option_map (map f) (references_in s base) → words_in w base ≡ words_in s base
-      → slice_index_or (references_of w.small.graph (f (part_of s base (i / 1023)))) (i % 1023) None ≡ f (slice_index_or (references_of s.small.graph (part_of s base (i / 1023))) (i % 1023) None)
-      → element_at w base i ≡ option_map f (element_at s base i)
-  element_kept base all i is refs words same =
-      let there = rooted s base all is in
-      let ps : List (Option Name) = refs_of (object_at s.small.graph there.0) in
-      let ps_there : references_in s base ≡ Some ps = ap (option_map (λ n. refs_of (object_at s.small.graph n))) there.1 in
-      let now : references_in w base ≡ Some (map f ps) = refs ∙ ap (option_map (map f)) ps_there in
-      let is_now : root_length w base ≡ Some all = root_by s w base words ∙ is in
-      let long : length (map f ps) ≡ length ps = length-map ps f in
-      let part : part_of s base (i / 1023) ≡ slice_index_or ps (i / 1023) None = ap (λ v. slice_index_or (unwrap_or v []) (i / 1023) None) ps_there in
-      elim (cases_lt i (min all (1023 * length ps))) [
-        | inl less ↦
-            root_inside w base all i (map f ps) is_now now (omega (arith, less, long))
-            ∙ ap (λ v. Some v) (ap (λ v. slice_index_or (references_of w.small.graph v) (i % 1023) None) (named_in names ps (i / 1023) ∙ ap f (sym part)) ∙ same
-            ∙ ap (λ v. f (slice_index_or (references_of s.small.graph v) (i % 1023) None)) part)
-            ∙ sym (ap (option_map f) (root_inside s base all i ps is ps_there less))
-        | inr over ↦ root_outside w base all i (map f ps) is_now now (omega (arith, over, long)) ∙ sym (ap (option_map f) (root_outside s base all i ps is ps_there over))
-      ]
 
   parts_after : references_in w array ≡ Some (map f parts)
   parts_after = references_root ∙ ap (option_map (map f)) parts_there
@@ -240,7 +167,7 @@ module _ (s b w : LargeState) (own array p k source elements : ℕ) (settled : S
 
   -- each other one what it was
   pub kept_element : (i : ℕ) → (i / 1023 ≡ p → i % 1023 ≢ k) → element_at w array i ≡ option_map f (element_at s array i)
-  kept_element i other = element_kept array elements i root references_root words_root (at_part (cases_eq (i / 1023) p))
+  kept_element i other = element_kept s w names array elements i root references_root words_root (at_part (cases_eq (i / 1023) p))
     where
       at_part : (i / 1023 ≡ p) ⊎ (i / 1023 ≢ p) → slice_index_or (references_of w.small.graph (f (part_of s array (i / 1023)))) (i % 1023) None ≡ f (slice_index_or (references_of s.small.graph (part_of s array (i / 1023))) (i % 1023) None)
       at_part (inl same) =
@@ -260,7 +187,7 @@ module _ (s b w : LargeState) (own array p k source elements : ℕ) (settled : S
     from_reached q n e = (from, inr (from_held.0, q, from_held.1, found_at (refs_of (object_at s.small.graph from_held.0)) q n (sym (ap (λ v. slice_index_or (unwrap_or v []) q None) (ap (option_map (λ a. refs_of (object_at s.small.graph a))) from_held.1)) ∙ e)))
 
     pub from_element : (i : ℕ) → element_at w from i ≡ option_map f (element_at s from i)
-    from_element i = element_kept from all i is (references_after from are.root) (words_after from are.root)
+    from_element i = element_kept s w names from all i is (references_after from are.root) (words_after from are.root)
         (other_object (part_of s from (i / 1023)) (i % 1023) (λ q e. (from_reached (i / 1023) q e, λ same. are.parts p (i / 1023) part_name part_is (e ∙ ap (λ c. Some c) same))))
 
     pub from_root : root_length w from ≡ Some all
@@ -333,6 +260,33 @@ module _ (own : ℕ) (s u : LargeState) (by : Beside own s u) where
 
 -- ---- rounds
 
+-- another root is apart still, and has what it had
+pub record StaysApart (array r : ℕ) (renewals : List (List Name)) (s u : LargeState) : Type 0 where
+  pub are : AreApart u array r
+  pub root : root_length u r ≡ root_length s r
+  pub elements : (i : ℕ) → element_at u r i ≡ option_map (as_renamed renewals) (element_at s r i)
+
+pub stays_same : (array r : ℕ) (s : LargeState) → AreApart s array r → StaysApart array r [] s s
+stays_same array r s are = record { are = are; root = refl; elements = λ i. same_reference (element_at s r i) }
+
+pub stays_beside : (own array r : ℕ) (renewals : List (List Name)) (s u w : LargeState) → Beside own u w → array ≢ own → r ≢ own → StaysApart array r renewals s u → StaysApart array r renewals s w
+stays_beside own array r renewals s u w by first second stays = record {
+  are = same_apart own u w by array r first second stays.are;
+  root = same_root own u w by r second ∙ stays.root;
+  elements = λ i. same_element own u w by r i second ∙ stays.elements i;
+}
+
+-- so a root that is apart stays so
+pub stays_after : (s v b w : LargeState) (own array p k source elements r all : ℕ) (renewals : List (List Name)) (settled : Settled v b) (set : SetReference b w own k source) → root_length v array ≡ Some elements → HasOwnParts v array
+    → register_at v.small 1 own ≡ part_of v array p → root_length s r ≡ Some all → StaysApart array r renewals s v → StaysApart array r (renewals_with settled.names renewals) s w
+stays_after s v b w own array p k source elements r all renewals settled set root own_parts hand is stays =
+    let now : root_length v r ≡ Some all = stays.root ∙ is in
+    record {
+      are = from_apart v b w own array p k source elements settled set root own_parts hand r all now stays.are;
+      root = from_root v b w own array p k source elements settled set root own_parts hand r all now stays.are ∙ sym is;
+      elements = λ i. from_element v b w own array p k source elements settled set root own_parts hand r all now stays.are i ∙ ap (option_map (as_named settled.names)) (stays.elements i) ∙ named_at settled.names renewals (element_at s r i);
+    }
+
 -- rounds of a fill were done
 record Fills (registers own first n : ℕ) (pair : Pair) (s u : LargeState) : Type 0 where
   renewals : List (List Name)
@@ -347,6 +301,8 @@ record Fills (registers own first n : ℕ) (pair : Pair) (s u : LargeState) : Ty
   references : (r : ℕ) → r < registers → IsNoPart s pair.array r → references_in u r ≡ option_map (map (as_renamed renewals)) (references_in s r)
   words_of : (r : ℕ) → r < registers → IsNoPart s pair.array r → words_in u r ≡ words_in s r
   own_others : (r : ℕ) → r < registers → IsNoPart s pair.array r → HasOwnParts s r → HasOwnParts u r
+  apart : (q r : ℕ) → q < registers → r < registers → IsNoPart s pair.array q → IsNoPart s pair.array r → AreApart s q r → AreApart u q r
+  root : (r all : ℕ) → r < registers → root_length s r ≡ Some all → AreApart s pair.array r → StaysApart pair.array r renewals s u
   bodies : u.large ≡ (with_renewals renewals s).large
 
 pub mapped_many : (f : Option Name → Option Name) (v : Option (List (Option Name))) → length (unwrap_or (option_map (map f) v) []) ≡ length (unwrap_or v [])
@@ -423,6 +379,15 @@ module _ (registers own first n elements : ℕ) (pair : Pair) (s u v b w : Large
     own_others = λ r less none was.
         others_own v b w own array ((first + n) / 1023) ((first + n) % 1023) pair.other elements settled set root_v own_v hand r (same_no_part own u v by array r array_own (own_apart r less) (fills.no_part r less none))
         (same_own own u v by r (own_apart r less) (fills.own_others r less none was));
+    apart = λ q r less few none out are.
+        let none_q = same_no_part own u v by array q array_own (own_apart q less) (fills.no_part q less none) in
+        let none_r = same_no_part own u v by array r array_own (own_apart r few) (fills.no_part r few out) in
+        apart_named v b w settled q r (references_after v b w own array ((first + n) / 1023) ((first + n) % 1023) pair.other elements settled set root_v own_v hand q none_q)
+        (registers_now v b own ((first + n) % 1023) pair.other settled w set r) (references_after v b w own array ((first + n) / 1023) ((first + n) % 1023) pair.other elements settled set root_v own_v hand r none_r)
+        (same_apart own u v by q r (own_apart q less) (own_apart r few) (fills.apart q r less few none out are));
+    root = λ r all less is are.
+        stays_after s v b w own array ((first + n) / 1023) ((first + n) % 1023) pair.other elements r all fills.renewals settled set root_v own_v hand is
+        (stays_beside own array r fills.renewals s u v by array_own (own_apart r less) (fills.root r all less is are));
     bodies = bodies_now v b own ((first + n) % 1023) pair.other settled w set ∙ renewed_bodies settled.names fills.renewals s v (by.bodies ∙ fills.bodies);
   }
 
@@ -444,6 +409,8 @@ none_filled registers own first pair s own_parts = record {
   references = λ r less none. same_references (references_in s r);
   words_of = λ r less none. refl;
   own_others = λ r less none was. was;
+  apart = λ q r less few none out are. are;
+  root = λ r all less is are. stays_same pair.array r s are;
   bodies = refl;
 }
 
@@ -567,6 +534,12 @@ filled x m y h j k first count elements pair own parts is fits has root there ow
             ∙ ap (option_map (map (as_renamed fills.renewals))) (same_refs o s t by r (apart r less));
         words = λ r less none. same_words o u w off r (apart r less) ∙ fills.words_of r less (same_no_part o s t by pair.array r array (apart r less) none) ∙ same_words o s t by r (apart r less);
         own = λ r less none was. same_own o u w off r (apart r less) (fills.own_others r less (same_no_part o s t by pair.array r array (apart r less) none) (same_own o s t by r (apart r less) was));
+        roots = λ r all i less is are.
+            same_element o u w off r i (apart r less) ∙ (fills.root r all less (same_root o s t by r (apart r less) ∙ is) (same_apart o s t by pair.array r array (apart r less) are)).elements i
+            ∙ ap (option_map (as_renamed fills.renewals)) (same_element o s t by r i (apart r less));
+        apart = λ q r less few none out are.
+            same_apart o u w off q r (apart q less) (apart r few) (fills.apart q r less few (same_no_part o s t by pair.array q array (apart q less) none) (same_no_part o s t by pair.array r array (apart r few) out)
+            (same_apart o s t by q r (apart q less) (apart r few) are));
         bodies = off.bodies ∙ fills.bodies ∙ same_renewals fills.renewals s t by.bodies;
       },
     )

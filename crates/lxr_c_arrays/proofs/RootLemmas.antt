@@ -2,8 +2,8 @@
 use Rattle.std.proofs.Common.{◌≡◌, ◌≢◌, ℕ, zero, suc, ◌+◌, ◌-◌, ◌*◌, ◌/◌, ◌%◌, ◌<◌, ◌≤◌, ◌⊎◌, ◌∙◌, refl, sym, ap, subst, arith, cond, inl, inr, Option, Some, None, List, [], ◌∷◌, ◌++◌, length, map}
 use Rattle.std.specs.Prelude.{IsTrue, is_some, min, option_map, replicate, slice_get, slice_index_or, slice_set, unwrap_or, if◌then◌else◌, Ok}
 use Rattle.std.proofs.lemmas.Bool.{cases_eq, cases_lt, eq-eqb, lt-leb, ne_eqb}
-use Rattle.std.proofs.lemmas.List.{get_or_past, length-map, length-replicate, length-set, map-id}
-use Rattle.std.proofs.lemmas.Option.{get_or_from_slice_get, same_Some, slice_get-map, slice_get_within}
+use Rattle.std.proofs.lemmas.List.{get_or-replicate, get_or_past, length-map, length-replicate, length-set, map-id}
+use Rattle.std.proofs.lemmas.Option.{get_or_from_slice_get, same_Some, slice_get-get_or, slice_get-map, slice_get_within}
 use Rattle.lxr_layout.specs.declared.Name.{Name}
 use Rattle.lxr_layout.specs.declared.Shape.{Shape}
 use Rattle.lxr_layout.specs.declared.TheConstants.{REGISTERS}
@@ -15,11 +15,11 @@ use Rattle.lxr_graph.proofs.RowLemmas.{object_at-with_value, slice_get-set}
 use Rattle.lxr_graph.proofs.NameSets.{same_itself}
 use Rattle.lxr_large_model.specs.State.{LargeState}
 use Rattle.lxr_c_heap.specs.declared.own.OwnRegisters.{OwnRegisters}
-use Rattle.lxr_c_arrays.specs.Elements.{HasMadeRoot, HasOwnParts, NewRootsHaveNils, as_named, as_renamed, element_in, elements_at, elements_of, part_of, references_of, with_renewals}
+use Rattle.lxr_c_arrays.specs.Elements.{AreApart, HasMadeRoot, HasOwnParts, NewRootsHaveNils, as_named, as_renamed, element_in, elements_at, elements_of, part_at, part_of, references_of, with_renewals}
 use Rattle.lxr_c_arrays.specs.Plans.{IsNewArray, own_nil, part_length, part_steps, parts_plan, root_steps}
 use Rattle.lxr_c_arrays.proofs.NewLemmas.{AreThere, GotObject, make_first, new_apart, new_held, new_object, next, nil_at, old_object, old_register, reached_old}
 use Rattle.lxr_c_arrays.proofs.FillLemmas.{named_lists, named_with, renewals_with, renewed_bodies}
-use Rattle.lxr_c_arrays.proofs.ReachLemmas.{ReachApart, apart_roots, apart_settled, found_at, own_named, own_over, reached_over}
+use Rattle.lxr_c_arrays.proofs.ReachLemmas.{ReachApart, apart_named, apart_over, apart_roots, apart_settled, found_at, own_named, own_over, reached_over}
 use Rattle.lxr_c_arrays.proofs.SettleLemmas.{IsReachedBy, Settled, named_object, same_references}
 use Rattle.lxr_c_arrays.proofs.StoreLemmas.{SetReference, changed_now, held_now, object_now, store_first, unlike}
 use Rattle.std.specs.List.{range_with_len}
@@ -211,6 +211,7 @@ record Beside (registers : ℕ) (s u : LargeState) : Type 0 where
   pub references : (r : ℕ) → r < registers → references_in u r ≡ option_map (map (as_renamed renewals)) (references_in s r)
   pub words : (r : ℕ) → r < registers → words_in u r ≡ words_in s r
   pub own : (r : ℕ) → r < registers → HasOwnParts s r → HasOwnParts u r
+  pub pairs : (q r : ℕ) → q < registers → r < registers → AreApart s q r → AreApart u q r
   pub bodies : u.large ≡ (with_renewals renewals s).large
 
 -- and they reach neither the root nor what it refers to
@@ -218,7 +219,7 @@ abbrev IsApart : ℕ → ℕ → LargeState → Type 0
 IsApart registers root u = (r : ℕ) → r < registers → ReachApart u r root
 
 beside_same : (registers : ℕ) (s : LargeState) → Beside registers s s
-beside_same registers s = record { renewals = []; held = λ r less. refl; references = λ r less. same_references (references_in s r); words = λ r less. refl; own = λ r less was. was; bodies = refl }
+beside_same registers s = record { renewals = []; held = λ r less. refl; references = λ r less. same_references (references_in s r); words = λ r less. refl; own = λ r less was. was; pairs = λ q r less few are. are; bodies = refl }
 
 beside_settled : (registers : ℕ) (s u b : LargeState) → Beside registers s u → Settled u b → Beside registers s b
 beside_settled registers s u b rest settled =
@@ -229,6 +230,7 @@ beside_settled registers s u b rest settled =
       references = λ r less. settled.references r ∙ ap (option_map (map (as_named names))) (rest.references r less) ∙ named_lists names rest.renewals (references_in s r);
       words = λ r less. settled.words r ∙ rest.words r less;
       own = λ r less was. own_named u b b settled r (settled.registers r) (settled.references r) (rest.own r less was);
+      pairs = λ q r less few are. apart_named u b b settled q r (settled.references q) (settled.registers r) (settled.references r) (rest.pairs q r less few are);
       bodies = ap (λ (z : LargeState). z.large) settled.state ∙ renewed_bodies names rest.renewals s u rest.bodies;
     }
 
@@ -250,6 +252,7 @@ beside_over registers s u w rest same objects bodies = record {
   references = λ r less. same_fields refs_of u w r (same r less) (λ n e. objects r n less e) ∙ rest.references r less;
   words = λ r less. same_fields values_of u w r (same r less) (λ n e. objects r n less e) ∙ rest.words r less;
   own = λ r less was. own_over u w r (same r less) (same_fields refs_of u w r (same r less) (λ n e. objects r n less e)) (rest.own r less was);
+  pairs = λ q r less few are. apart_over u w q r (same_fields refs_of u w q (same q less) (λ n e. objects q n less e)) (same r few) (same_fields refs_of u w r (same r few) (λ n e. objects r n few e)) (rest.pairs q r less few are);
   bodies = bodies ∙ rest.bodies;
 }
 
@@ -438,6 +441,27 @@ root_nils own elements dest u w parts most same held =
     ∙ ap (λ g. Some (elements_of g refs (Some elements))) same
     ∙ ap (λ vs. Some vs) (map_nils (element_in u.small.graph refs) (element_nil own elements ((elements + 1023 - 1) / 1023) u parts) 0 (min elements (1023 * length refs)) ∙ ap (λ n. replicate n None) all)
 
+-- the register refers to its parts
+root_refs : (own : OwnRegisters) (elements total dest : ℕ) (u w : LargeState) (parts : Parts own elements total total u) → w.small.graph ≡ u.small.graph → register_at w.small 1 dest ≡ register_at u.small 1 own.first
+    → references_in w dest ≡ Some parts.object.refs
+root_refs own elements total dest u w parts same held =
+    ap (option_map (λ n. refs_of (object_at w.small.graph n))) (held ∙ parts.held) ∙ ap (λ g. Some (refs_of (object_at g parts.root))) same ∙ ap (λ o. Some (refs_of o)) parts.there
+
+-- each of them has its place
+root_places : (own : OwnRegisters) (elements dest : ℕ) (u w : LargeState) → Parts own elements ((elements + 1023 - 1) / 1023) ((elements + 1023 - 1) / 1023) u → w.small.graph ≡ u.small.graph
+    → register_at w.small 1 dest ≡ register_at u.small 1 own.first → (i : ℕ) → i < elements → slice_get (references_of w.small.graph (part_at w dest i)) (i % 1023) ≡ Some None
+root_places own elements dest u w parts same held i less =
+    let refs = parts.object.refs in
+    let n : ℕ = part_length elements (i / 1023) in
+    let nils : List (Option Name) = replicate n None in
+    let (p, read, found) = parts.parts (i / 1023) (omega (arith, less)) in
+    let part : part_at w dest i ≡ Some p = ap (λ v. slice_index_or (unwrap_or v []) (i / 1023) None) (root_refs own elements ((elements + 1023 - 1) / 1023) dest u w parts same held)
+    ∙ get_or_from_slice_get refs (i / 1023) (Some p) None read in
+    let within : i % 1023 < n = omega (arith, less) in
+    let long : length nils ≡ n = length-replicate n None in
+    ap (λ v. slice_get (references_of w.small.graph v) (i % 1023)) part ∙ ap (λ g. slice_get (refs_of (object_at g p)) (i % 1023)) same ∙ ap (λ o. slice_get (refs_of o) (i % 1023)) found
+    ∙ slice_get-get_or nils (i % 1023) None (omega (arith, within, long)) ∙ ap (λ v. Some v) (get_or-replicate n (i % 1023) None None within)
+
 -- its parts are its own
 root_own : (own : OwnRegisters) (elements total dest : ℕ) (u w : LargeState) → Parts own elements total total u → w.small.graph ≡ u.small.graph
     → register_at w.small 1 dest ≡ register_at u.small 1 own.first → HasOwnParts w dest
@@ -456,12 +480,9 @@ root_own own elements total dest u w parts same held = record {
       absurd (cc);
 }
   where
-    refs_now : references_in w dest ≡ Some parts.object.refs
-    refs_now = ap (option_map (λ n. refs_of (object_at w.small.graph n))) (held ∙ parts.held) ∙ ap (λ g. Some (refs_of (object_at g parts.root))) same ∙ ap (λ o. Some (refs_of o)) parts.there
-
     part_read : (i : ℕ) (n : Name) → part_of w dest i ≡ Some n → (i < total) × (slice_get parts.object.refs i ≡ Some (Some n))
     part_read i n one =
-        let read = found_at parts.object.refs i n (ap (λ v. slice_index_or (unwrap_or v []) i None) (sym refs_now) ∙ one) in
+        let read = found_at parts.object.refs i n (ap (λ v. slice_index_or (unwrap_or v []) i None) (sym (root_refs own elements total dest u w parts same held)) ∙ one) in
         let long = parts.long in
         let within = slice_get_within parts.object.refs i (Some n) read in
         (omega (arith, within, long), read)
@@ -513,6 +534,7 @@ rooted x m y h j k wanted own is (small, most) has ran ended =
       twice.0,
       subst (HasMadeRoot (registers_in x) wanted (large_state h)) (sym is_w) (record {
         elements = root_nils own wanted.length wanted.dest u w parts most refl held;
+        places = root_places own wanted.length wanted.dest u w parts refl (held ∙ sym parts.held);
         renewals = beside.renewals;
         held = λ r less other. same r less other ∙ beside.held r less;
         references = λ r less other. same_fields refs_of u w r (same r less other) (λ n e. refl) ∙ beside.references r less;
@@ -520,6 +542,7 @@ rooted x m y h j k wanted own is (small, most) has ran ended =
         own = root_own own wanted.length total wanted.dest u w parts refl (held ∙ sym parts.held);
         apart = λ r less other. let none = clear r less other in (apart_roots w wanted.dest r (λ n one two. none n two one), apart_roots w r wanted.dest none);
         others = λ r less other was. own_over u w r (same r less other) (same_fields refs_of u w r (same r less other) (λ n e. refl)) (beside.own r less was);
+        pairs = λ q r less few other differs are. apart_over u w q r (same_fields refs_of u w q (same q less other) (λ n e. refl)) (same r few differs) (same_fields refs_of u w r (same r few differs) (λ n e. refl)) (beside.pairs q r less few are);
         bodies = beside.bodies;
       }),
     )

@@ -22,7 +22,7 @@ use Rattle.lxr_c_heap.specs.declared.host.Ends.{Ends}
 use Rattle.lxr_c_heap.specs.declared.host.HostHeap.{HostHeap}
 use Rattle.lxr_c_heap.specs.Hosting.{IsDue, PausesFor, PausesWhere, SettlesAt, Turns, behind_pause, exceeds_room}
 use Rattle.lxr_c_many.specs.Fields.{references_in, words_in}
-use Rattle.lxr_c_arrays.specs.Elements.{as_named, references_of, with_names}
+use Rattle.lxr_c_arrays.specs.Elements.{CanReach, as_named, by_reference, by_register, references_of, with_names, words_of}
 
 -- an object, with its references by new names where names were renewed
 abbrev pub named_object : Option (List Name) → Object → Object
@@ -53,13 +53,16 @@ pub record Settled (s b : LargeState) : Type 0 where
   pub apart : (q r : ℕ) → register_at b.small 1 q ≡ register_at b.small 1 r → register_at s.small 1 q ≡ register_at s.small 1 r
   pub one : (m n : Name) → IsReached s m → IsReached s n → as_named names (Some m) ≡ as_named names (Some n) → m ≡ n
   pub refs : (q : Name) → IsReached s q → references_of b.small.graph (as_named names (Some q)) ≡ map (as_named names) (references_of s.small.graph (Some q))
+  pub one_reached : (j k : ℕ) (m n : Name) → CanReach j s m → CanReach k s n → as_named names (Some m) ≡ as_named names (Some n) → m ≡ n
+  pub refs_reached : (k : ℕ) (n : Name) → CanReach k s n → references_of b.small.graph (as_named names (Some n)) ≡ map (as_named names) (references_of s.small.graph (Some n))
+  pub words_reached : (k : ℕ) (n : Name) → CanReach k s n → words_of b.small.graph (as_named names (Some n)) ≡ words_of s.small.graph (Some n)
 
 pub same_references : (v : Option (List (Option Name))) → v ≡ option_map (map (λ (q : Option Name). q)) v
 same_references None = refl
 same_references (Some vs) = ap Some (sym (map-id vs))
 
 pub settled_same : (s : LargeState) → Settled s s
-settled_same s = record { names = None; state = refl; registers = λ r. refl; references = λ r. same_references (references_in s r); words = λ r. refl; object = λ r n o held there. (n, refl, there); part = λ r i n q o p held there read found. (q, refl, found); apart = λ q r same. same; one = λ m n there here e. same_Some m n e; refs = λ q there. sym (map-id (references_of s.small.graph (Some q))) }
+settled_same s = record { names = None; state = refl; registers = λ r. refl; references = λ r. same_references (references_in s r); words = λ r. refl; object = λ r n o held there. (n, refl, there); part = λ r i n q o p held there read found. (q, refl, found); apart = λ q r same. same; one = λ m n there here e. same_Some m n e; refs = λ q there. sym (map-id (references_of s.small.graph (Some q))); one_reached = λ j k m n there here e. same_Some m n e; refs_reached = λ k n there. sym (map-id (references_of s.small.graph (Some n))); words_reached = λ k n there. refl }
 
 module _ (x y : Heap) (h : List LargeItem) (ns : List Name) (is : IsHeapOf x h) (after : IsHeapOf y (Renewed ns ∷ h)) where
   order : AreInOrder (world_name ∷ ns)
@@ -133,8 +136,21 @@ module _ (x y : Heap) (h : List LargeItem) (ns : List Name) (is : IsHeapOf x h) 
       at_object None none = absurd (let nowhere : slice_get (refs_of None) i ≡ Some (Some q) = subst (λ o. slice_get (refs_of o) i ≡ Some (Some q)) none there in cc)
       at_object (Some o) found = part_left r i n q o held found (subst (λ o. slice_get (refs_of o) i ≡ Some (Some q)) found there)
 
+  -- so is all that registers can reach
+  member_reached : (k : ℕ) (n : Name) → CanReach k (large_state h) n → IsTrue (has (members (large_moment h)) n)
+  member_reached k q (by_register r n less held) = member_held r n held
+  member_reached k q (by_reference m n i reach read) = at_object (object_at (large_state h).small.graph m) refl (member_reached k m reach)
+    where
+      at_object : (o : Option Object) → object_at (large_state h).small.graph m ≡ o → IsTrue (has (members (large_moment h)) m) → IsTrue (has (members (large_moment h)) n)
+      at_object None none member = absurd (let nowhere : slice_get (refs_of None) i ≡ Some (Some n) = subst (λ o. slice_get (refs_of o) i ≡ Some (Some n)) none read in cc)
+      at_object (Some o) found member =
+          reference_held (large_moment h) m o i (Some n) is.follows member (ap (λ (s : State). object_at s.graph m) is.state ∙ found) (subst (λ o. slice_get (refs_of o) i ≡ Some (Some n)) found read)
+
+  all_left : (k : ℕ) (n : Name) → CanReach k (large_state h) n → IsTrue (has (world_name ∷ ns) n)
+  all_left k n reach = member_left n (member_reached k n reach)
+
   pub settled_anew : Settled (large_state h) (large_state (Renewed ns ∷ h))
-  settled_anew = record { names = Some ns; state = refl; registers = register_renewed; references = references_renewed; words = words_renewed; object = λ r n o held there. object_anew n o (left r n held) there; part = λ r i n q o p held there read found. object_anew q p (part_left r i n q o held there read) found; apart = apart_renewed; one = λ m n there here e. one_to_one ns order m n (reached_left m there) (reached_left n here) (same_Some (renewed_name ns m) (renewed_name ns n) e); refs = λ q there. refs_renewed ns order 1 (large_state h).small.graph q (reached_left q there) }
+  settled_anew = record { names = Some ns; state = refl; registers = register_renewed; references = references_renewed; words = words_renewed; object = λ r n o held there. object_anew n o (left r n held) there; part = λ r i n q o p held there read found. object_anew q p (part_left r i n q o held there read) found; apart = apart_renewed; one = λ m n there here e. one_to_one ns order m n (reached_left m there) (reached_left n here) (same_Some (renewed_name ns m) (renewed_name ns n) e); refs = λ q there. refs_renewed ns order 1 (large_state h).small.graph q (reached_left q there); one_reached = λ j k m n there here e. one_to_one ns order m n (all_left j m there) (all_left k n here) (same_Some (renewed_name ns m) (renewed_name ns n) e); refs_reached = λ k n there. refs_renewed ns order 1 (large_state h).small.graph n (all_left k n there); words_reached = λ k n there. ap values_of (object_renewed ns order 1 (large_state h).small.graph n (all_left k n there)) }
 
 -- so it is where a heap settles
 pub settling : (ends : Ends) (x y : HostHeap) (h k : List LargeItem) → SettlesAt ends x h y k → Settled (large_state h) (large_state k)

@@ -32,6 +32,7 @@ use Rattle.lxr_c_arrays.specs.Plans.{first_own, planned, storing}
 use Rattle.lxr_c_arrays.specs.Running.{Carries, Runs}
 use Rattle.lxr_c_arrays.specs.Sides.{root_length, side_by}
 use Rattle.lxr_c_arrays.proofs.ElementLemmas.{few_registers, small_index}
+use Rattle.lxr_c_arrays.proofs.ReachLemmas.{apart_named, own_named}
 use Rattle.lxr_c_arrays.proofs.SettleLemmas.{Settled, paused_state, settling}
 
 -- ---- one store
@@ -213,6 +214,8 @@ stores_replace_elements x y h index pair is (array, other) none carried =
     let were = references_were s b pair.array (index_of index) pair.other first.settled u first.set in
     let rs = were.0 in
     let long : length refs ≡ length rs = sym (ap length were.2) ∙ length-map rs f in
+    let others : (r : ℕ) → register_at s.small 1 r ≢ register_at s.small 1 pair.array → references_in u r ≡ option_map (map f) (references_in s r) =
+    λ r differs. references_beside s b pair.array (index_of index) pair.other first.settled u first.set r (λ e. differs (first.settled.apart r pair.array e)) in
     let inside = first.set.within in
     let whose = held_refs s (register_at s.small 1 pair.array) rs were.1 in
     let few = few_registers x h is in
@@ -233,6 +236,8 @@ stores_replace_elements x y h index pair is (array, other) none carried =
             ∙ sym (ap (option_map (λ es. slice_set (map f es) index (f (register_at s.small 1 pair.other)))) elements_were);
         held = λ r less. registers_now s b pair.array (index_of index) pair.other first.settled u first.set r;
         objects = λ n apart. others_now s b pair.array (index_of index) pair.other first.settled u first.set n (λ e. apart (ap (λ q. Some q) e ∙ sym first.set.held ∙ first.settled.registers pair.array));
+        own = λ r less beside was. own_named s b u first.settled r (registers_now s b pair.array (index_of index) pair.other first.settled u first.set r) (others r beside) was;
+        apart = λ q r less few beside differs are. apart_named s b u first.settled q r (others q beside) (registers_now s b pair.array (index_of index) pair.other first.settled u first.set r) (others r differs) are;
         bodies = bodies_now s b pair.array (index_of index) pair.other first.settled u first.set;
       },
     )

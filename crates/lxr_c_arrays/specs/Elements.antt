@@ -2,7 +2,7 @@
 use Rattle.std.specs.Prelude.{◌≡◌, ◌≢◌, ℕ, ◌+◌, ◌*◌, ◌/◌, ◌%◌, ◌<◌, ◌≤◌, ◌⊎◌, min, map, option_map, slice_get, slice_index_or, slice_set, replicate, unwrap_or, Option, None, Some, List, [], ◌∷◌, length}
 use Rattle.std.specs.List.{range_with_len}
 use Rattle.lxr_layout.specs.declared.Name.{Name}
-use Rattle.lxr_graph.specs.State.{Graph, HasObject, object_at, refs_of, register_at}
+use Rattle.lxr_graph.specs.State.{Graph, HasObject, object_at, refs_of, register_at, values_of}
 use Rattle.lxr_large_model.specs.History.{LargeItem, large_state}
 use Rattle.lxr_graph.specs.Renewing.{renewed_held}
 use Rattle.lxr_large_model.specs.Renewing.{renewed_large}
@@ -102,14 +102,16 @@ as_named None = λ v. v
 as_named (Some ns) = renewed_held ns
 
 -- An element of a whole array was stored to, from state s to u. Its elements are those that it had, but for this one, which is what the other
--- register held; each register that the host may name holds what it held, and each other object and each body is as it was. Where the heap renewed
--- its names on the way, all that is so by the new names.
+-- register held; each register that the host may name holds what it held, and each other object and each body is as it was. Parts that were another
+-- root's own are so still, and roots that were apart. Where the heap renewed its names on the way, all that is so by the new names.
 pub record HasStored (registers index : ℕ) (pair : Pair) (s u : LargeState) : Type 0 where
   pub there : index < length (unwrap_or (elements_at s pair.array) [])
   pub names : Option (List Name)
   pub elements : elements_at u pair.array ≡ option_map (λ es. slice_set (map (as_named names) es) index (as_named names (register_at s.small 1 pair.other))) (elements_at s pair.array)
   pub held : (r : ℕ) → r < registers → register_at u.small 1 r ≡ as_named names (register_at s.small 1 r)
   pub objects : (n : Name) → Some n ≢ as_named names (register_at s.small 1 pair.array) → object_at u.small.graph n ≡ object_at (with_names names s).small.graph n
+  pub own : (r : ℕ) → r < registers → register_at s.small 1 r ≢ register_at s.small 1 pair.array → HasOwnParts s r → HasOwnParts u r
+  pub apart : (q r : ℕ) → q < registers → r < registers → register_at s.small 1 q ≢ register_at s.small 1 pair.array → register_at s.small 1 r ≢ register_at s.small 1 pair.array → AreApart s q r → AreApart u q r
   pub bodies : u.large ≡ (with_names names s).large
 
 -- a store to a whole array that tells success has replaced the element
@@ -120,7 +122,8 @@ StoresReplaceElements =
 
 -- An element of a root was stored to, from state s to u: it is what the other register held, and its part has what it had, but for this reference;
 -- each register that the host may name holds what it held, and each object but the part, and each body, is as it was. Each root whose parts were its
--- own, and which isn't that part, has its own still. Where the heap renewed its names on the way, all that is so by the new names.
+-- own, and which isn't that part, has its own still, and two that were apart are so still. Where the heap renewed its names on the way, all that is
+-- so by the new names.
 pub record HasStoredInPart (registers index : ℕ) (pair : Pair) (s u : LargeState) : Type 0 where
   pub names : Option (List Name)
   pub element : element_at u pair.array index ≡ Some (as_named names (register_at s.small 1 pair.other))
@@ -129,6 +132,7 @@ pub record HasStoredInPart (registers index : ℕ) (pair : Pair) (s u : LargeSta
   pub held : (r : ℕ) → r < registers → register_at u.small 1 r ≡ as_named names (register_at s.small 1 r)
   pub objects : (n : Name) → Some n ≢ as_named names (part_at s pair.array index) → object_at u.small.graph n ≡ object_at (with_names names s).small.graph n
   pub own : (r : ℕ) → r < registers → register_at s.small 1 r ≢ part_at s pair.array index → HasOwnParts s r → HasOwnParts u r
+  pub apart : (q r : ℕ) → q < registers → r < registers → register_at s.small 1 q ≢ part_at s pair.array index → register_at s.small 1 r ≢ part_at s pair.array index → AreApart s q r → AreApart u q r
   pub bodies : u.large ≡ (with_names names s).large
 
 -- a store to a root that tells success has stored to the part of the element, where the root isn't that part itself
@@ -141,12 +145,15 @@ StoresReachParts =
 -- ---- new arrays
 
 -- An array was made, from state s to u: its elements are nil, each other register that the host may name holds what it held, and each object that
--- there was and each body is as it was. Where the heap renewed its names on the way, all that is so by the new names.
+-- there was and each body is as it was. Parts that were a root's own are so still, and roots that were apart. Where the heap renewed its names on the
+-- way, all that is so by the new names.
 pub record HasMade (registers : ℕ) (wanted : NewArray) (s u : LargeState) : Type 0 where
   pub elements : elements_at u wanted.dest ≡ Some (replicate wanted.length None)
   pub names : Option (List Name)
   pub held : (r : ℕ) → r < registers → r ≢ wanted.dest → register_at u.small 1 r ≡ as_named names (register_at s.small 1 r)
   pub objects : (n : Name) → HasObject (with_names names s).small.graph n → object_at u.small.graph n ≡ object_at (with_names names s).small.graph n
+  pub own : (r : ℕ) → r < registers → r ≢ wanted.dest → HasOwnParts s r → HasOwnParts u r
+  pub apart : (q r : ℕ) → q < registers → r < registers → q ≢ wanted.dest → r ≢ wanted.dest → AreApart s q r → AreApart u q r
   pub bodies : u.large ≡ (with_names names s).large
 
 -- a call that makes an array of up to 1,023 elements, and tells success, has made it
@@ -167,13 +174,16 @@ abbrev pub with_renewals : List (List Name) → LargeState → LargeState
 with_renewals [] s = s
 with_renewals (ns ∷ earlier) s = renewed_large ns (with_renewals earlier s)
 
--- What is left, from state s to u, where elements of one array were replaced: each register that the host may name holds what it held, what it
--- refers to has the references and data words that it had, where that isn't the array, and each body is as it was. All that is so by the names of
--- the renewals.
+-- What is left, from state s to u, where elements of one array were replaced: each register that the host may name holds what it held, and each body
+-- is as it was. What a register refers to, where that isn't the array, has the references and data words that it had, and the elements, where the
+-- array is no part of it; parts that were its own are so still, and roots that were apart. All that is so by the names of the renewals.
 pub record HasLeft (registers array : ℕ) (renewals : List (List Name)) (s u : LargeState) : Type 0 where
   pub held : (r : ℕ) → r < registers → register_at u.small 1 r ≡ as_renamed renewals (register_at s.small 1 r)
   pub references : (r : ℕ) → r < registers → register_at s.small 1 r ≢ register_at s.small 1 array → references_in u r ≡ option_map (map (as_renamed renewals)) (references_in s r)
   pub words : (r : ℕ) → r < registers → register_at s.small 1 r ≢ register_at s.small 1 array → words_in u r ≡ words_in s r
+  pub elements : (r i : ℕ) → r < registers → register_at s.small 1 r ≢ register_at s.small 1 array → IsNoPart s r array → element_at u r i ≡ option_map (as_renamed renewals) (element_at s r i)
+  pub own : (r : ℕ) → r < registers → register_at s.small 1 r ≢ register_at s.small 1 array → HasOwnParts s r → HasOwnParts u r
+  pub apart : (q r : ℕ) → q < registers → r < registers → register_at s.small 1 q ≢ register_at s.small 1 array → register_at s.small 1 r ≢ register_at s.small 1 array → AreApart s q r → AreApart u q r
   pub bodies : u.large ≡ (with_renewals renewals s).large
 
 -- So many elements of a whole array from one on were filled, from state s to u: they are what the other register held, and each other element is what
@@ -193,8 +203,9 @@ FillsReplaceElements =
 
 -- So many elements of a root from one on were filled, from state s to u: they are what the other register held, and each other element is what it
 -- was. Each register that the host may name holds what it held, what it refers to has the references and data words that it had, where that is no
--- part of the root, and each body is as it was. Each root whose parts were its own, and which is no part of this one, has its own still. Where the
--- heap renewed its names on the way, all that is so by the new names.
+-- part of the root, and each body is as it was. Each root whose parts were its own, and which is no part of this one, has its own still; so do two
+-- that were apart stay apart, and one that was apart from this one has the elements that it had. Where the heap renewed its names on the way, all that
+-- is so by the new names.
 pub record HasFilledParts (registers first count : ℕ) (pair : Pair) (s u : LargeState) : Type 0 where
   pub renewals : List (List Name)
   pub there : first + count ≤ length (unwrap_or (elements_at s pair.array) [])
@@ -204,6 +215,8 @@ pub record HasFilledParts (registers first count : ℕ) (pair : Pair) (s u : Lar
   pub references : (r : ℕ) → r < registers → IsNoPart s pair.array r → references_in u r ≡ option_map (map (as_renamed renewals)) (references_in s r)
   pub words : (r : ℕ) → r < registers → IsNoPart s pair.array r → words_in u r ≡ words_in s r
   pub own : (r : ℕ) → r < registers → IsNoPart s pair.array r → HasOwnParts s r → HasOwnParts u r
+  pub roots : (r all i : ℕ) → r < registers → root_length s r ≡ Some all → AreApart s pair.array r → element_at u r i ≡ option_map (as_renamed renewals) (element_at s r i)
+  pub apart : (q r : ℕ) → q < registers → r < registers → IsNoPart s pair.array q → IsNoPart s pair.array r → AreApart s q r → AreApart u q r
   pub bodies : u.large ≡ (with_renewals renewals s).large
 
 -- a fill of a root whose parts are its own, and that tells success, has filled the elements
@@ -213,9 +226,9 @@ FillsReachParts =
     → HasOwnParts (large_state h) pair.array → FillsElements first count x y h pair code.Done
     → (k : List LargeItem) × IsHostOf y k × HasFilledParts (registers_in x) first count pair (large_state h) (large_state k)
 
--- So many elements of one whole array, from `first` on, were copied to another, or to itself, from `at` on, from state s to u: each is what that
--- one had before, also where the ranges overlap, and each other element is what it was. Where the heap renewed its names on the way, all that is so
--- by the new names.
+-- So many elements of an array, from `first` on, were copied to a whole one, which it may be itself, from `at` on, from state s to u: each is what
+-- that one had before, also where the ranges overlap, and each other element is what it was. Where the heap renewed its names on the way, all that is
+-- so by the new names.
 pub record HasCopied (registers at first count : ℕ) (pair : Pair) (s u : LargeState) : Type 0 where
   pub renewals : List (List Name)
   pub there : at + count ≤ length (unwrap_or (elements_at s pair.array) [])
@@ -224,11 +237,11 @@ pub record HasCopied (registers at first count : ℕ) (pair : Pair) (s u : Large
   pub others : (i : ℕ) → (i < at) ⊎ (at + count ≤ i) → element_at u pair.array i ≡ option_map (as_renamed renewals) (element_at s pair.array i)
   pub left : HasLeft registers pair.array renewals s u
 
--- a copy between whole arrays that tells success has copied the elements
+-- a copy to a whole array, from a whole one as well or from a root of which it is no part, has copied the elements where it tells success
 abbrev pub CopiesReplaceElements : Type 0
 CopiesReplaceElements =
     (x y : HostHeap) (h : List LargeItem) (at first count : ℕ) (pair : Pair) → IsHostOf x h → IsPair (registers_in x) pair
-    → root_length (large_state h) pair.array ≡ None → root_length (large_state h) pair.other ≡ None → CopiesElements at first count x y h pair code.Done
+    → root_length (large_state h) pair.array ≡ None → (root_length (large_state h) pair.other ≡ None) ⊎ IsNoPart (large_state h) pair.other pair.array → CopiesElements at first count x y h pair code.Done
     → (k : List LargeItem) × IsHostOf y k × HasCopied (registers_in x) at first count pair (large_state h) (large_state k)
 
 -- So many elements of one root, from `first` on, were copied to another, or to itself, from `at` on, from state s to u: each is what that one had
@@ -243,6 +256,8 @@ pub record HasCopiedParts (registers at first count : ℕ) (pair : Pair) (s u : 
   pub references : (r : ℕ) → r < registers → IsNoPart s pair.array r → references_in u r ≡ option_map (map (as_renamed renewals)) (references_in s r)
   pub words : (r : ℕ) → r < registers → IsNoPart s pair.array r → words_in u r ≡ words_in s r
   pub own : (r : ℕ) → r < registers → IsNoPart s pair.array r → HasOwnParts s r → HasOwnParts u r
+  pub roots : (r all i : ℕ) → r < registers → root_length s r ≡ Some all → AreApart s pair.array r → element_at u r i ≡ option_map (as_renamed renewals) (element_at s r i)
+  pub apart : (q r : ℕ) → q < registers → r < registers → IsNoPart s pair.array q → IsNoPart s pair.array r → AreApart s q r → AreApart u q r
   pub bodies : u.large ≡ (with_renewals renewals s).large
 
 -- a copy between roots, which are one or apart, and of which the parts of the one that is written to are its own, has copied the elements where it
@@ -264,14 +279,17 @@ CopiesEnterParts =
 
 -- ---- new roots
 
--- A root was made, from state s to u: its elements are nil, its parts are its own, and they are apart from each root that another register holds, as
--- that one's are from it. Each other register that the host may name holds what it held, what that refers to has the references and data words that
--- it had, where its parts were its own they are so still, and each body is as it was. All that is so by the names of the renewals.
+-- A root was made, from state s to u: its elements are nil, each of them has its place in a part, its parts are its own, and they are apart from each
+-- root that another register holds, as that one's are from it. Each other register that the host may name holds what it held, what that refers to has
+-- the references and data words that it had, where its parts were its own they are so still, so are two roots apart that were, and each body is as it
+-- was. All that is so by the names of the renewals.
 pub record HasMadeRoot (registers : ℕ) (wanted : NewArray) (s u : LargeState) : Type 0 where
   pub elements : elements_at u wanted.dest ≡ Some (replicate wanted.length None)
+  pub places : (i : ℕ) → i < wanted.length → slice_get (references_of u.small.graph (part_at u wanted.dest i)) (i % PART) ≡ Some None
   pub own : HasOwnParts u wanted.dest
   pub apart : (r : ℕ) → r < registers → r ≢ wanted.dest → AreApart u wanted.dest r × AreApart u r wanted.dest
   pub others : (r : ℕ) → r < registers → r ≢ wanted.dest → HasOwnParts s r → HasOwnParts u r
+  pub pairs : (q r : ℕ) → q < registers → r < registers → q ≢ wanted.dest → r ≢ wanted.dest → AreApart s q r → AreApart u q r
   pub renewals : List (List Name)
   pub held : (r : ℕ) → r < registers → r ≢ wanted.dest → register_at u.small 1 r ≡ as_renamed renewals (register_at s.small 1 r)
   pub references : (r : ℕ) → r < registers → r ≢ wanted.dest → references_in u r ≡ option_map (map (as_renamed renewals)) (references_in s r)
@@ -310,3 +328,41 @@ pub record ArraysKeepRegisters : Type 0 where
   pub stored : (x y : HostHeap) (h : List LargeItem) (index : ℕ) (pair : Pair) (told : Code) → IsHostOf x h → IsPair (registers_in x) pair → StoresElement index x y h pair told → KeepsRegisters x h y None
   pub filled : (x y : HostHeap) (h : List LargeItem) (first count : ℕ) (pair : Pair) (told : Code) → IsHostOf x h → IsPair (registers_in x) pair → FillsElements first count x y h pair told → KeepsRegisters x h y None
   pub copied : (x y : HostHeap) (h : List LargeItem) (at first count : ℕ) (pair : Pair) (told : Code) → IsHostOf x h → IsPair (registers_in x) pair → CopiesElements at first count x y h pair told → KeepsRegisters x h y None
+
+-- ---- what the host can reach
+
+-- what a register that the host may name holds, and what an object that it can reach refers to
+pub data CanReach (registers : ℕ) (s : LargeState) : Name → Type 0 where
+  by_register : (r : ℕ) (n : Name) → r < registers → register_at s.small 1 r ≡ Some n → CanReach registers s n
+  by_reference : (m n : Name) (i : ℕ) → CanReach registers s m → slice_get (references_of s.small.graph (Some m)) i ≡ Some (Some n) → CanReach registers s n
+
+-- the data words of what is referred to; none of nil
+abbrev pub words_of : Graph → Option Name → List ℕ
+words_of g None = []
+words_of g (Some n) = values_of (object_at g n)
+
+-- Each register that the host may name, but one that a call gives something, holds what it held, each object that the host could reach has the
+-- references and data words that it had, and each body is as it was, from state s to u. What that register was given is a new object: none that the
+-- host could reach. All that is so by the names of the renewals.
+pub record HasKeptReached (registers : ℕ) (given : Option ℕ) (s u : LargeState) : Type 0 where
+  pub renewals : List (List Name)
+  pub held : (r : ℕ) → r < registers → Some r ≢ given → register_at u.small 1 r ≡ as_renamed renewals (register_at s.small 1 r)
+  pub references : (n : Name) → CanReach registers s n → references_of u.small.graph (as_renamed renewals (Some n)) ≡ map (as_renamed renewals) (references_of s.small.graph (Some n))
+  pub words : (n : Name) → CanReach registers s n → words_of u.small.graph (as_renamed renewals (Some n)) ≡ words_of s.small.graph (Some n)
+  pub new : (r : ℕ) (n : Name) → given ≡ Some r → CanReach registers s n → as_renamed renewals (Some n) ≢ register_at u.small 1 r
+  pub bodies : u.large ≡ (with_renewals renewals s).large
+
+-- so it is at each call that makes an array, whatever it tells: also where there is no room for all of it
+abbrev pub NewKeepsReached : Type 0
+NewKeepsReached =
+    (x y : HostHeap) (h : List LargeItem) (wanted : NewArray) (told : Code) → IsHostOf x h → IsNewArray (registers_in x) wanted → MakesArray x y h wanted told
+    → (k : List LargeItem) × IsHostOf y k × HasKeptReached (registers_in x) (given_by told wanted.dest) (large_state h) (large_state k)
+
+-- ---- all or nothing
+
+-- A fill of a whole array, and a copy between whole ones, that tells another code than that of success has changed nothing: its numbers didn't fit.
+pub record WholeCallsDoAll : Type 0 where
+  pub filled : (x y : HostHeap) (h : List LargeItem) (first count : ℕ) (pair : Pair) (told : Code) → IsHostOf x h → IsPair (registers_in x) pair → root_length (large_state h) pair.array ≡ None
+      → FillsElements first count x y h pair told → told ≢ code.Done → y ≡ x
+  pub copied : (x y : HostHeap) (h : List LargeItem) (at first count : ℕ) (pair : Pair) (told : Code) → IsHostOf x h → IsPair (registers_in x) pair → root_length (large_state h) pair.array ≡ None
+      → root_length (large_state h) pair.other ≡ None → CopiesElements at first count x y h pair told → told ≢ code.Done → y ≡ x

@@ -1,6 +1,6 @@
 //! What the elements of an array are after a call. The functions do nothing: the contract of each is a law of what the calls do.
 ghost use Rattle.lxr_c_arrays.specs.Elements.{LengthCountsElements, LoadsGiveElements, StoresReachParts, StoresReplaceElements};
-ghost use Rattle.lxr_c_arrays.specs.Elements.{ArraysKeepRegisters, CopiesEnterParts, CopiesReachParts, CopiesReplaceElements, FillsReachParts, FillsReplaceElements, NewElementsAreNil, NewRootsHaveNils};
+ghost use Rattle.lxr_c_arrays.specs.Elements.{ArraysKeepRegisters, CopiesEnterParts, CopiesReachParts, CopiesReplaceElements, FillsReachParts, FillsReplaceElements, NewElementsAreNil, NewKeepsReached, NewRootsHaveNils, WholeCallsDoAll};
 ghost use Rattle.lxr_c_arrays.specs.Own.{ArraysKeepNil, OwnStayNil};
 
 /// An array is as long as it has elements.
@@ -41,8 +41,8 @@ pub fn fills_reach_parts()
     ensures { FillsReachParts }
 {}
 
-/// A copy between arrays of one object each that tells success has copied the elements, also where the ranges overlap, and changed nothing else that
-/// the host's registers refer to.
+/// A copy to an array of one object that tells success, from another such or from a root of which it is no part, has copied the elements, also where
+/// the ranges overlap, and changed nothing else that the host's registers refer to.
 pub fn copies_replace_elements()
     ensures { CopiesReplaceElements }
 {}
@@ -59,8 +59,8 @@ pub fn copies_enter_parts()
     ensures { CopiesEnterParts }
 {}
 
-/// A call that makes an array of more than 1,023 elements, and tells success, has made so many, which are nil, in parts that are its own and apart
-/// from those of other arrays.
+/// A call that makes an array of more than 1,023 elements, and tells success, has made so many, which are nil and have each their place, in parts
+/// that are its own and apart from those of other arrays.
 pub fn new_roots_have_nils()
     ensures { NewRootsHaveNils }
 {}
@@ -79,4 +79,15 @@ pub fn own_stay_nil()
 /// success, and bodies.
 pub fn arrays_keep_registers()
     ensures { ArraysKeepRegisters }
+{}
+
+/// A call that makes an array, whatever it tells, leaves all that the host could reach, and its registers but for the one that it gives the array,
+/// which is none of what it could reach: so all is as before where there is no room.
+pub fn new_keeps_reached()
+    ensures { NewKeepsReached }
+{}
+
+/// A fill of an array of one object, and a copy between two of them, that tells another code than that of success has changed nothing.
+pub fn whole_calls_do_all()
+    ensures { WholeCallsDoAll }
 {}

@@ -21,9 +21,9 @@ pub use copying::copy;
 pub use elements::{length, load, store};
 pub use filling::fill;
 pub use laws::{
-    arrays_keep_nil, arrays_keep_registers, copies_reach_parts, copies_replace_elements,
-    fills_reach_parts, fills_replace_elements, length_counts_elements, loads_give_elements,
-    new_elements_are_nil, new_roots_have_nils, own_stay_nil, stores_reach_parts,
-    stores_replace_elements,
+    arrays_keep_nil, arrays_keep_registers, copies_enter_parts, copies_reach_parts,
+    copies_replace_elements, fills_reach_parts, fills_replace_elements, length_counts_elements,
+    loads_give_elements, new_elements_are_nil, new_keeps_reached, new_roots_have_nils,
+    own_stay_nil, stores_reach_parts, stores_replace_elements, whole_calls_do_all,
 };
 pub use making::new;

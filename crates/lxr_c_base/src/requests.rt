@@ -21,8 +21,18 @@ pub fn register_of(registers: u16, number: u32) -> Result<u8, Code>
     if number < u32::from(registers) {
         Ok(number as u8)
     } else {
-        Err(Code::Register)
+        Err(no_register())
     }
+}
+
+/// There is no such register. It is a call, since that is seldom: so the code of a call that names registers knows behind each look that there is one, and
+/// asks again for none.
+#[cold]
+#[inline(never)]
+fn no_register() -> Code
+    ensures { result ≡ Code.Register }
+{
+    Code::Register
 }
 
 /// How many registers are to stay in use: at least the first, and at most all.

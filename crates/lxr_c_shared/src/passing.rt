@@ -265,16 +265,28 @@ impl Owned {
     fn operate(&mut self, request: Result<Op, Code>) -> Told
         ensures { Operates request self.old self.new result }
     {
+        let op = match request {
+            Ok(op) => op,
+            Err(code) => return only(self.refused(code)),
+        };
         match self {
-            Owned::Away(sealed) => match request {
-                Ok(op) => order(&mut sealed.station, op),
-                Err(code) => only(code),
-            },
-            Owned::Home(_) => match request {
-                Ok(_) => only(Code::Home),
-                Err(code) => only(code),
-            },
+            Owned::Away(sealed) => order(&mut sealed.station, op),
+            Owned::Home(_) => only(Code::Home),
             Owned::Shared(_) => only(Code::NoHeap),
+        }
+    }
+
+    /// The code of a request that is refused for its numbers. It is a call, since that is seldom: so the code that orders an operation knows that its
+    /// numbers are good.
+    #[cold]
+    #[inline(never)]
+    fn refused(&self, code: Code) -> Code
+        ensures { Operates (Err code) self.now self.now (is_only result) }
+    {
+        match self {
+            Owned::Away(_) => code,
+            Owned::Home(_) => code,
+            Owned::Shared(_) => Code::NoHeap,
         }
     }
 

@@ -1,6 +1,6 @@
 -- An epoch that is opened: what its actors show, and that its invariant holds of the execution that begins.
 use Rattle.std.proofs.Common.{◌≡◌, ◌≢◌, ℕ, zero, suc, ◌+◌, ◌-◌, ◌*◌, ◌/◌, ◌%◌, ◌^◌, ◌<◌, ◌≤◌, refl, sym, ap, subst, ◌∙◌, inl, inr, arith, true, false, List, [], ◌∷◌, length}
-use Rattle.std.specs.Prelude.{All, Option, Some, None, ◌&&◌, if◌then◌else◌, map, not, slice_get, slice_index_or, take}
+use Rattle.std.specs.Prelude.{All, IsSome, Option, Some, None, ◌&&◌, if◌then◌else◌, is_some, map, not, slice_get, slice_index_or, take}
 use Rattle.std.specs.List.{count_by}
 use Rattle.std.proofs.Math.ListN.{get_or-map}
 use Rattle.std.proofs.lemmas.List.{length-map}
@@ -64,7 +64,7 @@ use Rattle.lxr_core.specs.Actors.{AreInOrder, decrementers_in, mutators_in, trac
 use Rattle.lxr_core.specs.Resting.{ActorsRestAfter, FitsThread, RestsAfter}
 use Rattle.lxr_core.specs.Starting.{HaveStarted, MayAllStart, MayNameAll, started_again}
 use Rattle.lxr_core.specs.Executions.{HoldsExecution, epoch_state_of}
-use Rattle.lxr_core.specs.Filling.{FillsPockets, HaveFilled, HoldInOrder, MayAllFill, MayFill, holding_places, places_of, unfilled}
+use Rattle.lxr_core.specs.Filling.{FilledWhileTraced, FillsPockets, HaveEmptyPockets, HaveFilled, HoldInOrder, MayAllFill, MayFill, holding_places, places_of, unfilled}
 use Rattle.lxr_core.specs.Opening.{Begins, MayOpen, Opens, execution_at}
 use Rattle.lxr_core.proofs.AgainLemmas.{are_registers}
 use Rattle.lxr_core.proofs.MappedLemmas.{mapped, mapped_from}
@@ -408,9 +408,17 @@ module _ (b : Beginning) (before after : List AnyActor) (begins : IsBeginning b)
       let old = was_helper i d there in
       subst (IsDecrementerOf (limits_of b)) (sym old.is) (hints_stay (limits_of b) old.was (rest.helpers.each old.number old.was old.stood).decrementer).again
 
-  -- and all tracers, with what their pockets were filled with
-  pub all_tracers : FillsPockets (tables_of b.space) (limits_of b).blocks (tracers_in after) → (i : ℕ) (d : TracerState) → slice_get (tracers_in after) i ≡ Some d → IsTracerOf (limits_of b) d
-  all_tracers filled i d there =
+  -- and all tracers, with what their pockets were filled with, or with empty ones
+  pub all_tracers : (o : Option ℕ) → FilledWhileTraced o (tables_of b.space) (limits_of b).blocks (tracers_in after) → (i : ℕ) (d : TracerState) → slice_get (tracers_in after) i ≡ Some d → IsTracerOf (limits_of b) d
+  all_tracers None empty i d there =
+      let old = was_tracer i d there in
+      let was = (rest.helpers.tracers old.number old.was old.stood).tracer in
+      let none : d.pocket.items ≡ [] = empty i d there in
+      let few : length d.pocket.items ≡ 0 = ap length none in
+      filled_tracer (limits_of b) old.was d was old.is (omega (arith, few)) (λ k place at.
+      let bad : slice_get [] k ≡ Some place = ap (λ (ps : List Place). slice_get ps k) (sym none) ∙ at in
+      absurd (cc))
+  all_tracers (Some began) filled i d there =
       let old = was_tracer i d there in
       let was = (rest.helpers.tracers old.number old.was old.stood).tracer in
       filled_tracer (limits_of b) old.was d was old.is (filled.few i d there) (λ k place at.
@@ -545,7 +553,7 @@ holds b after before now pauses unnamed few is opened =
         mutators = all_mutators b before now is.begins is.actors_rest opened.actors unnamed;
         told = all_told b before now is.begins is.actors_rest opened.actors;
         decrementers = all_helpers b before now is.begins is.actors_rest opened.actors;
-        tracers = all_tracers b before now is.begins is.actors_rest opened.actors opened.pockets;
+        tracers = all_tracers b before now is.begins is.actors_rest opened.actors b.space.trace opened.pockets;
       },
     )
 
@@ -603,14 +611,41 @@ filled_started places actors begun now is same = subst (λ z. HaveStarted places
       slice_get_past (map unfilled begun) i (omega (arith, many, as_many, past)) ∙ sym (slice_get_past actors i past);
 })
 
--- it is opened
-pub opened_at : (before after : Space) (actors begun now : List AnyActor) (to : ℕ) → Turns before after (record (tables_of before) { cursors = changed (tables_of before).cursors PAUSE_WORD 0 })
-    → HaveStarted after.registers.items actors begun (length actors) → HaveFilled (tables_of after) after.limits.blocks to begun now (length begun) → Opens before after actors now
-opened_at before after actors begun now to turned started filled =
-    let blocks : after.limits.blocks ≡ before.limits.blocks = ap (λ (s : Space). s.limits.blocks) turned.rest in
-    record {
-      space = turned;
-      actors = filled_started before.registers.items actors begun now (subst (λ places. HaveStarted places actors begun (length actors)) (ap (λ s. s.registers.items) turned.rest) started) filled.same;
-      pockets = filled_before (tables_of before) (tables_of after) before.limits.blocks (tracers_in now) (ap (λ (t : Tables). t.grays) turned.tables) (ap (λ (t : Tables). t.marks) turned.tables)
-          (subst (λ n. FillsPockets (tables_of after) n (tracers_in now)) blocks (pockets_filled (tables_of after) after.limits.blocks to begun now filled));
-    }
+-- what a space and actors are opened by, but for pockets
+module _ (before after : Space) (actors begun : List AnyActor) (turned : Turns before after (record (tables_of before) { cursors = changed (tables_of before).cursors PAUSE_WORD 0 }))
+    (started : HaveStarted after.registers.items actors begun (length actors)) where
+  -- the actors began with the registers of the space as it was
+  begun_before : HaveStarted before.registers.items actors begun (length actors)
+  begun_before = subst (λ places. HaveStarted places actors begun (length actors)) (ap (λ s. s.registers.items) turned.rest) started
+
+  -- whether a trace runs is as it was
+  trace_before : after.trace ≡ before.trace
+  trace_before = ap (λ (s : Space). s.trace) turned.rest
+
+  -- it is opened, while a trace runs
+  pub opened_traced : (now : List AnyActor) (to : ℕ) → IsSome after.trace → HaveFilled (tables_of after) after.limits.blocks to begun now (length begun) → Opens before after actors now
+  opened_traced now to runs filled =
+      let blocks : after.limits.blocks ≡ before.limits.blocks = ap (λ (s : Space). s.limits.blocks) turned.rest in
+      record {
+        space = turned;
+        actors = filled_started before.registers.items actors begun now begun_before filled.same;
+        pockets = by_trace before.trace (subst IsSome trace_before runs)
+            (filled_before (tables_of before) (tables_of after) before.limits.blocks (tracers_in now) (ap (λ (t : Tables). t.grays) turned.tables) (ap (λ (t : Tables). t.marks) turned.tables)
+            (subst (λ n. FillsPockets (tables_of after) n (tracers_in now)) blocks (pockets_filled (tables_of after) after.limits.blocks to begun now filled)));
+      }
+    where
+      by_trace : (o : Option ℕ) → IsSome o → FillsPockets (tables_of before) before.limits.blocks (tracers_in now) → FilledWhileTraced o (tables_of before) before.limits.blocks (tracers_in now)
+      by_trace None runs fills = absurd (cc)
+      by_trace (Some began) runs fills = fills
+
+  -- and where none runs
+  pub opened_untraced : is_some after.trace ≡ false → MayAllFill before.limits begun → Opens before after actors begun
+  opened_untraced none empty = record {
+    space = turned;
+    actors = filled_started before.registers.items actors begun begun begun_before refl;
+    pockets = by_trace before.trace (subst (λ o. is_some o ≡ false) trace_before none) (λ i d there. let from = tracer_from begun i d there in (empty from.0 (any.Tracer d) from.1).1);
+  }
+    where
+      by_trace : (o : Option ℕ) → is_some o ≡ false → HaveEmptyPockets (tracers_in begun) → FilledWhileTraced o (tables_of before) before.limits.blocks (tracers_in begun)
+      by_trace None none empty = empty
+      by_trace (Some began) none empty = absurd (cc)

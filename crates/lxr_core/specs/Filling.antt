@@ -1,5 +1,5 @@
 -- What tracers' pockets are filled with as an epoch opens: places of gray objects that are not marked yet.
-use Rattle.std.specs.Prelude.{◌≡◌, ℕ, zero, suc, ◌+◌, ◌-◌, ◌*◌, ◌<◌, ◌≤◌, false, Some, List, [], ◌∷◌, IsTrue, if◌then◌else◌, length, map, slice_get, take}
+use Rattle.std.specs.Prelude.{◌≡◌, ℕ, zero, suc, ◌+◌, ◌-◌, ◌*◌, ◌<◌, ◌≤◌, false, Option, Some, None, List, [], ◌∷◌, IsTrue, if◌then◌else◌, length, map, slice_get, take}
 use Rattle.std.specs.List.{flat_map}
 use Rattle.lxr_layout.specs.declared.TheConstants.{GRANULES_IN_BLOCK}
 use Rattle.lxr_layout.specs.declared.Place.{Place}
@@ -59,6 +59,15 @@ pub record FillsPockets (t : Tables) (blocks : ℕ) (tracers : List TracerState)
       → (place : Place) → IsToScan t blocks place → (k : ℕ) × (slice_get (in_pockets tracers) k ≡ Some place)
   -- they stand there in the order of granules, the first tracer's pocket is filled first, and the next one only where that is full
   pub order : (to : ℕ) × HoldInOrder t blocks 0 to tracers
+
+-- no pocket has a place
+abbrev pub HaveEmptyPockets : List TracerState → Type 0
+HaveEmptyPockets tracers = (i : ℕ) (d : TracerState) → slice_get tracers i ≡ Some d → d.pocket.items ≡ []
+
+-- The pockets as an epoch opens: they are filled while a trace runs, which began at the pause of some number, and empty where none runs.
+abbrev pub FilledWhileTraced : Option ℕ → Tables → ℕ → List TracerState → Type 0
+FilledWhileTraced None t blocks tracers = HaveEmptyPockets tracers
+FilledWhileTraced (Some began) t blocks tracers = FillsPockets t blocks tracers
 
 -- a tracer whose pocket has these places
 abbrev pub holding_places : TracerState → List Place → TracerState

@@ -13,7 +13,7 @@ use Rattle.lxr_core_invariant.specs.EpochStates.{Beginning, IsBeginning, limits_
 use Rattle.lxr_core.specs.declared.actors.AnyActor.{AnyActor}
 use Rattle.lxr_core.specs.Actors.{tracers_in}
 use Rattle.lxr_core.specs.Executions.{Execution}
-use Rattle.lxr_core.specs.Filling.{FillsPockets, unfilled}
+use Rattle.lxr_core.specs.Filling.{FilledWhileTraced, unfilled}
 use Rattle.lxr_core.specs.Resting.{ActorsRestAfter, FitSpace}
 use Rattle.lxr_core.specs.Starting.{HaveStarted}
 
@@ -24,11 +24,11 @@ pub record MayOpen (g : AbstractState) (space : Space) (actors : List AnyActor) 
   pub fit : FitSpace space.limits g.moment.state.graph actors
 
 -- It is opened: the pause word is clear, each mutator has begun again with its 256 registers, and each helper with an empty
--- pocket and without an end; then tracers' pockets were filled. Nothing else of the space or of the actors has changed.
+-- pocket and without an end; then, while a trace runs, tracers' pockets were filled. Nothing else of the space or of the actors has changed.
 pub record Opens (before after : Space) (resting started : List AnyActor) : Type 0 where
   pub space : Turns before after (record (tables_of before) { cursors = changed (tables_of before).cursors PAUSE_WORD 0 })
   pub actors : HaveStarted before.registers.items resting (map unfilled started) (length resting)
-  pub pockets : FillsPockets (tables_of before) before.limits.blocks (tracers_in started)
+  pub pockets : FilledWhileTraced before.trace (tables_of before) before.limits.blocks (tracers_in started)
 
 -- A history so far led to the space and the actors: the actors rest for it, since its last pause nobody has asked for one, and each thread has
 -- had one call at most.

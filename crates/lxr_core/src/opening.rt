@@ -16,10 +16,11 @@ use lxr_image::{RegisterFile, Space};
 use lxr_layout::PAUSE_WORD;
 
 /// Opens an epoch: no pause is asked for, each mutator has its registers again and begins anew with no operation done
-/// in this epoch, unless it has done its end, and each helper has an empty pocket and no end. Then tracers' pockets are
-/// filled with places of gray objects that are not marked, each once: in the order of granules, the first tracer's pocket
-/// first. One has fewer than 64 only where no such place is left over. No step is made yet. Where a history so far led to
-/// this space and these actors, the invariant of the epoch holds from here on.
+/// in this epoch, unless it has done its end, and each helper has an empty pocket and no end. Then, while a trace runs,
+/// tracers' pockets are filled with places of gray objects that are not marked, each once: in the order of granules, the
+/// first tracer's pocket first. One has fewer than 64 only where no such place is left over. Where no trace runs they stay
+/// empty, and no gray bit is looked at. No step is made yet. Where a history so far led to this space and these actors, the
+/// invariant of the epoch holds from here on.
 pub fn open_epoch(space: &mut Space, actors: &mut [AnyActor])
     requires { (g : AbstractState) × MayOpen g space.old actors.old }
     ensures opens { Opens space.old space.new actors.old actors.new }
@@ -30,7 +31,9 @@ pub fn open_epoch(space: &mut Space, actors: &mut [AnyActor])
     space.registers.unnamed_are_nil();
     space.put_cursor(PAUSE_WORD, 0);
     start_all(actors, &space.registers);
-    fill_pockets(space, actors);
+    if space.trace.is_some() {
+        fill_pockets(space, actors);
+    }
 }
 
 /// Each actor begins again, a mutator with its 256 registers.

@@ -18,8 +18,9 @@ use Rattle.lxr_blocks.specs.Placing.{IsFull, IsPlaced, IsRest, granule_count}
 use Rattle.lxr_blocks.specs.States.{KeepsFree, KeepsState, state_in}
 use Rattle.lxr_blocks.proofs.BesideLemmas.{placed_beside}
 use Rattle.lxr_blocks.proofs.FreeLemmas.{free_joined, free_same}
+use Rattle.lxr_blocks.proofs.HandingLemmas.{header_some}
 use Rattle.lxr_blocks.specs.Lines.{line_behind, next_line}
-use Rattle.lxr_pause_promote.specs.Copying.{Evacuates, StandsAt, StandsKept, with_copy, with_words}
+use Rattle.lxr_pause_promote.specs.Copying.{Evacuates, IsUsedRow, StandsAt, StandsKept, with_copy, with_words}
 use Rattle.lxr_pause_promote.specs.Promotion.{Promotes, marked_between, with_promotion}
 use Rattle.lxr_pause_promote.proofs.PlacedLemmas.{KeepsLinesAndBlocks, keeps_both, keeps_fewer, keeps_state, marked_zero, still_kept, still_rest}
 use Rattle.lxr_pause_promote.proofs.TableLemmas.{stands_after}
@@ -194,6 +195,18 @@ copy_has_room before middle p q n shape is placed =
     let blocks : middle.limits.blocks ≡ before.limits.blocks = ap (λ s. s.limits.blocks) apart.space in
     let heap = is.stands.whole.in_heap in
     (omega (arith, blocks, heap), words_apart before middle (IsAmong (granule_of p.0) (granule_count shape)) p q n shape is apart)
+
+-- where there are fields, both headers tell that the objects' words lie in blocks in use
+pub copy_is_used : (before middle : Space) (p q : Place) (n : Name) (shape : Shape) → StandsKept before p n shape → IsPlaced before middle n shape q → 2 < word_count shape
+    → IsUsedRow (tables_of middle) (first_word p.0) (word_count shape) × IsUsedRow (tables_of middle) (first_word q.0) (word_count shape)
+copy_is_used before middle p q n shape is placed fields =
+    let beside = placed_apart before middle (IsAmong (granule_of p.0) (granule_count shape)) p q n shape is is.kept placed in
+    let apart = words_apart before middle (IsAmong (granule_of p.0) (granule_count shape)) p q n shape is beside in
+    let there = beside.written.others (first_word p.0) (elim apart [ inl h ↦ inl (omega (arith, h, fields)) | inr h ↦ inr h ]) in
+    let old = is.stands.whole.in_block in let new = beside.in_block in (
+      record { some = header_some _ n shape (there ∙ is.stands.whole.header) fields; in_block = omega (arith, old, fields) },
+      record { some = header_some _ n shape beside.written.header fields; in_block = omega (arith, new, fields) },
+    )
 
 -- words are copied, and the one at the old place written
 pub evacuated_turns : (a b c : Space) (p q : Place) (shape : Shape) → Turns a b (with_words (tables_of a) (first_word p.0) (first_word q.0) (word_count shape))

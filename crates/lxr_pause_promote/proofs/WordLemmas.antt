@@ -1,13 +1,16 @@
 -- The heap words of an object that is copied.
-use Rattle.std.proofs.Common.{◌≡◌, ◌≢◌, ℕ, ◌+◌, ◌-◌, ◌<◌, ◌≤◌, ap, ◌∙◌, inl, inr, ◌⊎◌, arith, cond, true, false, nat_eq}
+use Rattle.std.proofs.Common.{◌≡◌, ◌≢◌, ℕ, ◌+◌, ◌-◌, ◌*◌, ◌<◌, ◌≤◌, ap, sym, ◌∙◌, inl, inr, ◌⊎◌, arith, cond, true, false, nat_eq}
 use Rattle.std.proofs.lemmas.Bool.Decides.{leb_tells, nat_tests}
 use Rattle.lxr_layout.specs.declared.Shape.{Shape}
 use Rattle.lxr_layout.specs.Objects.{moved_word, word_count}
+use Rattle.lxr_layout.specs.declared.TheConstants.{WORDS_IN_BLOCK}
 use Rattle.lxr_layout.specs.Places.{first_word}
+use Rattle.lxr_image.specs.declared.space.Space.{Space}
+use Rattle.lxr_image.specs.Spaces.{IsInUsedBlock, Turns, tables_of}
 use Rattle.lxr_image.specs.Tables.{Tables}
 use Rattle.lxr_blocks.specs.Kept.{IsAmong}
 use Rattle.lxr_blocks.proofs.HandedLemmas.{between, outside}
-use Rattle.lxr_pause_promote.specs.Copying.{with_copy, with_words}
+use Rattle.lxr_pause_promote.specs.Copying.{IsUsedRow, with_copy, with_words}
 
 -- ---- words written to other words
 
@@ -18,6 +21,19 @@ word_copied t from to words i some within =
 
 pub word_left : (t : Tables) (from to words w : ℕ) → (w < to + 1) ⊎ (to + words ≤ w) → (with_words t from to words).heap w ≡ t.heap w
 word_left t from to words w out = ap (λ b. cond b (t.heap (from + (w - to))) (t.heap w)) (outside (to + 1) (to + words) w out)
+
+-- where the first word of a row in one block isn't 0 and stays, that block is in use
+pub in_used_row : (before after : Space) (t : Tables) (first words i : ℕ) → Turns before after t → t.heap first ≡ (tables_of before).heap first → IsUsedRow (tables_of before) first words → i < words
+    → first + words ≤ WORDS_IN_BLOCK * before.limits.blocks → IsInUsedBlock after (first + i)
+in_used_row before after t first words i turns same row within heap =
+    let blocks : after.limits.blocks ≡ before.limits.blocks = ap (λ s. s.limits.blocks) turns.rest in
+    let block = row.in_block in
+    record {
+      other = first;
+      there = omega (arith, blocks, heap, within);
+      block = omega (arith, block, within);
+      some = λ zero. row.some (sym same ∙ sym (ap (λ x. x.heap first) turns.tables) ∙ zero);
+    }
 
 -- ---- an object copied
 

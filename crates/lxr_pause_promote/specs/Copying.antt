@@ -1,5 +1,6 @@
 -- One new object copied.
-use Rattle.std.specs.Prelude.{ℕ, ◌+◌, ◌-◌, ◌≤◌, nat_eq, if◌then◌else◌}
+use Rattle.std.specs.Prelude.{◌≡◌, ◌≢◌, ℕ, ◌+◌, ◌-◌, ◌/◌, ◌≤◌, nat_eq, if◌then◌else◌}
+use Rattle.lxr_layout.specs.declared.TheConstants.{WORDS_IN_BLOCK}
 use Rattle.lxr_layout.specs.declared.Name.{Name}
 use Rattle.lxr_layout.specs.declared.Place.{Place}
 use Rattle.lxr_layout.specs.declared.Shape.{Shape}
@@ -32,6 +33,11 @@ pub record StandsKept (s : Space) (p : Place) (n : Name) (shape : Shape) : Type 
 -- some object does
 abbrev pub HasKeptAt : Space → Place → Type 0
 HasKeptAt s p = (n : Name) × (shape : Shape) × StandsKept s p n shape
+
+-- so many words in a row lie in one block, and the first isn't 0
+pub record IsUsedRow (t : Tables) (first words : ℕ) : Type 0 where
+  pub some : t.heap first ≢ 0
+  pub in_block : first / WORDS_IN_BLOCK ≡ (first + words - 1) / WORDS_IN_BLOCK
 
 -- the tables with so many words from one on written from another on too, but for the first of them
 abbrev pub with_words : Tables → ℕ → ℕ → ℕ → Tables

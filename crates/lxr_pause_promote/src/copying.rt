@@ -1,12 +1,12 @@
 //! Copying one new object.
-ghost use Rattle.std.specs.Prelude.{◌≡◌, ◌+◌, ◌*◌, ◌≤◌, ◌⊎◌, ◌↔◌, IfNone, IfSome, IsNone};
+ghost use Rattle.std.specs.Prelude.{◌≡◌, ◌+◌, ◌*◌, ◌<◌, ◌≤◌, ◌⊎◌, ◌↔◌, IfNone, IfSome, IsNone};
 ghost use Rattle.lxr_layout.specs.declared.TheConstants.{WORDS_IN_BLOCK};
 ghost use Rattle.lxr_layout.specs.declared.Name.{Name as NameOf};
 ghost use Rattle.lxr_layout.specs.declared.Shape.{Shape as ShapeOf};
 ghost use Rattle.lxr_layout.specs.Objects.{FitsShape, word_count};
 ghost use Rattle.lxr_image.specs.Spaces.{IsSpace, Turns, tables_of};
 ghost use Rattle.lxr_blocks.specs.Placing.{IsFull};
-ghost use Rattle.lxr_pause_promote.specs.Copying.{Evacuates, HasKeptAt, HasObjectAt, StandsAt, StandsKept, with_words};
+ghost use Rattle.lxr_pause_promote.specs.Copying.{Evacuates, HasKeptAt, HasObjectAt, IsUsedRow, StandsAt, StandsKept, with_words};
 ghost use Rattle.lxr_pause_promote.specs.Shortages.{IsShortage};
 
 use crate::shortage::Shortage;
@@ -56,17 +56,21 @@ pub fn object(space: &Space, place: Place) -> (Name, Shape)
     }
 }
 
-/// Copies the words behind a header of this shape, the one at a heap word, to behind another.
+/// Copies the words behind a header of this shape, the one at a heap word, to behind another. But where there is one word alone, both headers
+/// aren't 0, and tell that their blocks are in use.
 fn copy_words(space: &mut Space, from: u32, to: u32, shape: Shape)
     requires space { IsSpace space.old }
     requires shape { FitsShape shape }
     requires from { from + word_count shape ≤ WORDS_IN_BLOCK * space.old.limits.blocks }
     requires to { to + word_count shape ≤ WORDS_IN_BLOCK * space.old.limits.blocks }
     requires apart { (from + word_count shape ≤ to) ⊎ (to + word_count shape ≤ from) }
+    requires used { 2 < word_count shape → IsUsedRow (tables_of space.old) from (word_count shape) × IsUsedRow (tables_of space.old) to (word_count shape) }
     ensures { Turns space.old space.new (with_words (tables_of space.old) from to (word_count shape)) }
 {
-    for behind in 1..words_of(shape) {
-        let word = space.heap_word(from + behind);
-        space.put_heap(to + behind, word);
+    let first = space.heap_word(from + 1);
+    space.put_heap(to + 1, first);
+    for behind in 2..words_of(shape) {
+        let word = space.used_word(from + behind);
+        space.put_used(to + behind, word);
     }
 }

@@ -1266,8 +1266,8 @@ static void room_waits_for_no_slice(void) {
     IS(lxr_close(&heap), LXR_OK);
 }
 
-/* Slices end before an array of many parts: these wait for the pause, and there is nothing further to do. */
-static void array_held_back(void) {
+/* All parts of an array are taken apart by slices. */
+static void array_ends_in_slices(void) {
     lxr_heap heap = LXR_HEAP_INIT;
     lxr_settings settings = LXR_SETTINGS(4000, 1);
     IS(lxr_open(&heap, &settings), LXR_OK);
@@ -1281,13 +1281,42 @@ static void array_held_back(void) {
     uint32_t more = 7;
     IS(lxr_work(&heap, 1, &more), LXR_OK);
     IS(more, 1);
-    uint64_t parts = count_of(&heap, LXR_COUNT_WAITING);
-    IS(parts, 98);
+    IS(count_of(&heap, LXR_COUNT_WAITING), 98);
     IS(lxr_work(&heap, LAST, &more), LXR_OK);
     IS(more, 0);
-    IS(count_of(&heap, LXR_COUNT_WAITING), parts);
+    IS(count_of(&heap, LXR_COUNT_WAITING), 0);
     IS(lxr_pause(&heap), LXR_OK);
-    IS(count_of(&heap, LXR_COUNT_DEAD), parts + 1);
+    IS(count_of(&heap, LXR_COUNT_DEAD), 99);
+    IS(lxr_close(&heap), LXR_OK);
+}
+
+/* Slices end before an object whose references don't fit into what is left of 4,096 places and one for each register: here the last of a list of five
+ * that have 1,023 each. It waits for the pause, and there is nothing further to do. */
+static void list_held_back(void) {
+    lxr_heap heap = LXR_HEAP_INIT;
+    lxr_settings settings = LXR_SETTINGS(4000, 1);
+    IS(lxr_open(&heap, &settings), LXR_OK);
+    IS(lxr_set_pace(&heap, LXR_PACE_NEVER), LXR_OK);
+    IS(lxr_new(&heap, 3, 0, 1), LXR_OK);
+    uint32_t leaves[1022];
+    for (uint32_t at = 0; at < 1022; at++) leaves[at] = 3;
+    for (uint32_t made = 0; made < 5; made++) {
+        IS(lxr_new(&heap, 2, 1023, 0), LXR_OK);
+        IS(lxr_store_many(&heap, 2, 0, leaves, 1022), LXR_OK);
+        if (made) IS(lxr_store(&heap, 2, 1022, 1), LXR_OK);
+        IS(lxr_move(&heap, 1, 2), LXR_OK);
+    }
+    IS(lxr_nil(&heap, 2), LXR_OK);
+    IS(lxr_pause(&heap), LXR_OK);
+    IS(lxr_pause(&heap), LXR_OK);
+    IS(lxr_nil(&heap, 1), LXR_OK);
+    IS(lxr_pause(&heap), LXR_OK);
+    uint32_t more = 7;
+    IS(lxr_work(&heap, LAST, &more), LXR_OK);
+    IS(more, 0);
+    IS(count_of(&heap, LXR_COUNT_WAITING), 4 * 1022 + 1);
+    IS(lxr_pause(&heap), LXR_OK);
+    IS(count_of(&heap, LXR_COUNT_DEAD), 5);
     IS(lxr_close(&heap), LXR_OK);
 }
 
@@ -1317,30 +1346,39 @@ static uint64_t pauses_by_store(lxr_heap *heap, uint32_t base, uint32_t first, s
     return count_of(heap, LXR_COUNT_PAUSES) - before;
 }
 
-/* A pause comes where what is recorded doesn't fit into the log of 1,024, and before all of it; a store that is refused makes none. */
+/* The pauses that stores of all references of the objects in so many registers make, from register 1 on. */
+static uint64_t pauses_by_stores(lxr_heap *heap, uint32_t bases) {
+    uint64_t pauses = 0;
+    for (uint32_t base = 1; base <= bases; base++) pauses += pauses_by_store(heap, base, 0, 1023, LXR_OK);
+    return pauses;
+}
+
+/* A pause comes where what is recorded doesn't fit into the log of 4,096, and before all of it; a store that is refused makes none. */
 static void logs(void) {
     lxr_heap heap = LXR_HEAP_INIT;
     IS(open_heap(&heap, 16, 1), LXR_OK);
-    IS(lxr_new(&heap, 1, 1023, 0), LXR_OK);
-    IS(lxr_new(&heap, 2, 1023, 0), LXR_OK);
-    IS(lxr_new(&heap, 3, 0, 1), LXR_OK);
-    IS(pauses_by_store(&heap, 1, 0, 1023, LXR_OK) + pauses_by_store(&heap, 2, 0, 1023, LXR_OK), 0); /* new objects record nothing */
+    for (uint32_t base = 1; base <= 5; base++) IS(lxr_new(&heap, base, 1023, 0), LXR_OK);
+    IS(lxr_new(&heap, 6, 0, 1), LXR_OK);
+    IS(pauses_by_stores(&heap, 5), 0); /* new objects record nothing */
     IS(lxr_pause(&heap), LXR_OK);
-    IS(pauses_by_store(&heap, 1, 0, 1023, LXR_OK), 0);
-    IS(pauses_by_store(&heap, 2, 0, 1, LXR_OK), 0); /* the log is full */
-    IS(pauses_by_store(&heap, 1, 0, 1023, LXR_OK), 0);
-    IS(pauses_by_store(&heap, 2, 1, 1023, LXR_E_INDEX) + pauses_by_store(&heap, 15, 1, 2, LXR_E_NIL), 0);
-    IS(pauses_by_store(&heap, 2, 1, 0, LXR_OK), 0);
-    IS(pauses_by_store(&heap, 2, 0, 2, LXR_OK), 1); /* and has two records then */
-    IS(pauses_by_store(&heap, 1, 0, 1022, LXR_OK), 0);
-    IS(pauses_by_store(&heap, 2, 0, 2, LXR_OK), 0);
-    IS(pauses_by_store(&heap, 1, 1021, 2, LXR_OK), 1);
-    IS(pauses_by_store(&heap, 2, 0, 1023, LXR_OK), 1); /* two and 1,023 don't fit, and none of them is recorded before the pause */
-    IS(pauses_by_store(&heap, 1, 0, 1, LXR_OK), 0);
-    IS(lxr_store(&heap, 1, 1, 3), LXR_OK);
-    IS(pauses_by_store(&heap, 1, 0, 2, LXR_OK), 0);
+    IS(pauses_by_stores(&heap, 4), 0);
+    IS(pauses_by_store(&heap, 5, 0, 4, LXR_OK), 0); /* the log is full */
+    IS(pauses_by_stores(&heap, 4), 0);
+    IS(pauses_by_store(&heap, 5, 1, 1023, LXR_E_INDEX) + pauses_by_store(&heap, 15, 1, 2, LXR_E_NIL), 0);
+    IS(pauses_by_store(&heap, 5, 4, 0, LXR_OK), 0);
+    IS(pauses_by_store(&heap, 5, 3, 2, LXR_OK), 1); /* and has two records then */
+    IS(pauses_by_stores(&heap, 4), 0);
+    IS(pauses_by_store(&heap, 5, 0, 2, LXR_OK), 0); /* it is full again */
+    IS(pauses_by_store(&heap, 5, 0, 2, LXR_OK), 0);
+    IS(pauses_by_store(&heap, 5, 1, 2, LXR_OK), 1);
+    IS(pauses_by_stores(&heap, 4), 0);
+    IS(pauses_by_store(&heap, 5, 0, 1023, LXR_OK), 1); /* 4,094 and 1,021 don't fit, and none of them is recorded before the pause */
+    IS(pauses_by_stores(&heap, 3), 0);
+    IS(pauses_by_store(&heap, 4, 0, 4, LXR_OK), 0);
+    IS(lxr_store(&heap, 4, 4, 6), LXR_OK);
+    IS(pauses_by_store(&heap, 4, 3, 2, LXR_OK), 0);
     IS(lxr_collect(&heap), LXR_OK);
-    IS(count_of(&heap, LXR_COUNT_LIVE), 3);
+    IS(count_of(&heap, LXR_COUNT_LIVE), 6);
     IS(lxr_close(&heap), LXR_OK);
 }
 
@@ -1371,7 +1409,8 @@ int main(void) {
     room_that_is_too_small();
     trims();
     tree_in_slices();
-    array_held_back();
+    array_ends_in_slices();
+    list_held_back();
     room_waits_for_no_slice();
     tree_at_once();
     work_in_idle_time();

@@ -3,6 +3,7 @@ ghost use Rattle.std.specs.Prelude.{◌≡◌, ◌≢◌, ◌+◌, ◌&&◌, ◌
 ghost use Rattle.lxr_layout.specs.Objects.{header_of, word_count};
 ghost use Rattle.lxr_layout.specs.declared.TheConstants.{MOST_GRANULES};
 ghost use Rattle.lxr_layout.specs.Places.{IsPlace, first_word, place_in};
+ghost use Rattle.lxr_barrier.specs.declared.machines.StorePhase.{StorePhase};
 ghost use Rattle.lxr_barrier.specs.Storing.{Storing};
 ghost use Rattle.lxr_mutator.specs.Operating.{index_of, indexed_fields};
 ghost use Rattle.lxr_mutator.specs.Mutating.{op_now, wipes_in};
@@ -12,22 +13,22 @@ ghost use Rattle.lxr_mutator.specs.Mutators.{IsBusy, MayBeIn};
 use super::Mutator;
 use crate::operating::{UNNAMED, dest_of, found_reply, index_of, indexed_fields};
 use crate::phases::{MutatorPhase, Stop};
-use lxr_barrier::{StoreEnd, StoreMachine};
+use lxr_barrier::{LastStep, StoreEnd, StoreMachine};
 use lxr_graph::{Op, Reply};
 use lxr_layout::{Header, MOST_GRANULES, Name, Place, Shape, unpack, word_of, words_of};
 
 impl Mutator {
     /// The header of the base was loaded: the operation goes on at a field of it, if it has one of this index. Whether it does.
     #[inline(always)]
-    pub(super) fn reach_field(&mut self, base: Place, header: u64) -> bool
-        requires { IsBusy self.old (MutatorPhase.Base base) }
+    pub(super) fn reach_field(&mut self, op: Op, base: Place, header: u64) -> bool
+        requires op { op ≡ op_now self.old }
+        requires busy { IsBusy self.old (MutatorPhase.Base base) }
         ensures { self.new ≡ next_in self.old (MutatorPhase.Base base) header }
     {
         let Some(shape) = self.shape_at(base, header) else {
             self.reply_seldom(Reply::Bad);
             return false;
         };
-        let op = self.open_op();
         if index_of(op) < indexed_fields(op, shape) {
             self.go_to_field(base, shape, op);
             true
@@ -81,20 +82,20 @@ impl Mutator {
         }
     }
 
-    /// A reference was loaded: its register holds what it refers to. Who tells names looks its name up, unless it is nil.
+    /// A reference was loaded: its register holds what it refers to. Who tells names looks its name up, unless it is nil. Whether the unit goes on.
     #[inline(always)]
-    pub(super) fn keep_reference(&mut self, op: Op, base: Place, reference: u64)
+    pub(super) fn keep_reference(&mut self, op: Op, base: Place, reference: u64) -> bool
         requires op { op ≡ op_now self.old }
         requires busy { IsBusy self.old (MutatorPhase.Reference base) }
         ensures { self.new ≡ next_in self.old (MutatorPhase.Reference base) reference }
     {
-        self.hold_reference(op, reference);
+        self.hold_reference(op, reference)
     }
 
     /// A word was found in the field: where it is a reference, its register holds what it refers to. Who tells names looks its name up,
-    /// unless it is nil.
+    /// unless it is nil. Whether the unit goes on.
     #[inline(always)]
-    fn hold_reference(&mut self, op: Op, reference: u64)
+    fn hold_reference(&mut self, op: Op, reference: u64) -> bool
         requires op { op ≡ op_now self.old }
         requires turn { self.old.phase ≢ MutatorPhase.Finished }
         requires operation { length self.old.replies.items < length self.old.operations }
@@ -102,16 +103,19 @@ impl Mutator {
     {
         if reference > u64::from(MOST_GRANULES) {
             self.reply_seldom(Reply::Bad);
-            return;
+            return false;
         }
         let place = Place(reference as u32);
         self.set_register(dest_of(self.told_op(op)), place);
         if place.0 == 0 {
             self.reply(found_reply(op, None));
+            false
         } else if self.names {
             self.go_on(MutatorPhase::Referent { place });
+            true
         } else {
             self.reply(found_reply(op, Some(UNNAMED)));
+            false
         }
     }
 
@@ -150,6 +154,40 @@ impl Mutator {
                 self.hold_reference(op, old);
             }
             Some(StoreEnd::LogFull) => self.phase = MutatorPhase::GivingUp(Stop::LogFull),
+        }
+    }
+
+    /// The word with the bit of the field was loaded: the store or swap in progress, which had just begun, goes on or gives up. Whether the bit was clear.
+    #[inline(always)]
+    pub(super) fn look_at_bit(&mut self, old: u64) -> bool
+        requires storing { (store : Storing) × (self.old.phase ≡ MutatorPhase.Storing store) × (store.phase ≡ StorePhase.Begun) }
+        ensures { (store : Storing) → self.old.phase ≡ MutatorPhase.Storing store → self.new ≡ next_in self.old (MutatorPhase.Storing store) old }
+    {
+        let MutatorPhase::Storing(machine) = &mut self.phase else {
+            unreachable!();
+        };
+        if machine.look(old, &self.log) {
+            return true;
+        }
+        if machine.end().is_some() {
+            self.phase = MutatorPhase::GivingUp(Stop::LogFull);
+        }
+        false
+    }
+
+    /// The field was stored to or swapped, by the last step of the store or swap in progress, which the caller tells. Whether the unit goes on.
+    #[inline(always)]
+    pub(super) fn end_store(&mut self, op: Op, last: LastStep, old: u64) -> bool
+        requires op { op ≡ op_now self.old }
+        requires storing { (store : Storing) × IsBusy self.old (MutatorPhase.Storing store) × (store.phase ≡ StorePhase.Logged) × (last ≡ store.last) }
+        ensures { (store : Storing) → self.old.phase ≡ MutatorPhase.Storing store → self.new ≡ next_in self.old (MutatorPhase.Storing store) old }
+    {
+        match last {
+            LastStep::Store => {
+                self.reply(Reply::Stored);
+                false
+            }
+            LastStep::Swap => self.hold_reference(op, old),
         }
     }
 }

@@ -7,6 +7,7 @@ ghost use Rattle.std.specs.Prelude.{◌≡◌, ℕ};
 ghost use Rattle.lxr_layout.specs.declared.Place.{Place};
 ghost use Rattle.lxr_graph.specs.declared.Op.TheVariants as op;
 ghost use Rattle.lxr_actor.specs.Steps.{Does, DoesUnit, Finishes};
+ghost use Rattle.lxr_barrier.specs.declared.machines.StorePhase.{StorePhase};
 ghost use Rattle.lxr_barrier.specs.Storing.{Storing};
 ghost use Rattle.lxr_mutator.specs.Mutating.{op_now};
 ghost use Rattle.lxr_mutator.specs.Steps.{mutator_machine};
@@ -15,6 +16,7 @@ ghost use Rattle.lxr_mutator.specs.Mutators.{IsAskedIn, IsBusy, IsMutator};
 use super::Mutator;
 use crate::phases::MutatorPhase;
 use lxr_actor::{Actor, Steps, do_unit, finish_unit};
+use lxr_barrier::LastStep;
 use lxr_graph::Op;
 use lxr_layout::Place;
 
@@ -46,6 +48,17 @@ impl Mutator {
             Op::Put { base, index, value } => self.do_put(base, index, value, steps, table),
             Op::Add { base, index, value } => self.do_add(base, index, value, steps, table),
             Op::Load { dest, base, index } => self.do_load(dest, base, index, steps, table),
+            Op::Store {
+                base,
+                index,
+                source,
+            } => self.do_store(base, index, source, steps, table),
+            Op::Swap {
+                dest,
+                base,
+                index,
+                source,
+            } => self.do_swap(dest, base, index, source, steps, table),
             _ => self.do_any(op, steps, table),
         }
     }
@@ -183,6 +196,99 @@ impl Mutator {
         self.do_on_reference(Op::Load { dest, base, index }, steps, table);
     }
 
+    /// One unit of a `store`.
+    #[inline(never)]
+    fn do_store<T, S: Steps<Mutator, T>>(
+        &mut self,
+        base: u8,
+        index: u16,
+        source: u8,
+        steps: &mut S,
+        table: &T,
+    )
+        requires op { op.Store base index source ≡ op_now self.old }
+        requires holds { S.holds table.now steps.old self.old }
+        ensures unit { DoesUnit mutator_machine S.did self.old steps.old self.new steps.new }
+        ensures holds { S.holds table.now steps.new self.new }
+    {
+        self.do_by_storing(
+            Op::Store {
+                base,
+                index,
+                source,
+            },
+            steps,
+            table,
+        );
+    }
+
+    /// One unit of a `swap`.
+    #[inline(never)]
+    fn do_swap<T, S: Steps<Mutator, T>>(
+        &mut self,
+        dest: u8,
+        base: u8,
+        index: u16,
+        source: u8,
+        steps: &mut S,
+        table: &T,
+    )
+        requires op { op.Swap dest base index source ≡ op_now self.old }
+        requires holds { S.holds table.now steps.old self.old }
+        ensures unit { DoesUnit mutator_machine S.did self.old steps.old self.new steps.new }
+        ensures holds { S.holds table.now steps.new self.new }
+    {
+        self.do_by_storing(
+            Op::Swap {
+                dest,
+                base,
+                index,
+                source,
+            },
+            steps,
+            table,
+        );
+    }
+
+    /// One unit of an operation that stores a reference behind the barrier.
+    #[inline(always)]
+    fn do_by_storing<T, S: Steps<Mutator, T>>(&mut self, op: Op, steps: &mut S, table: &T)
+        requires op { op ≡ op_now self.old }
+        requires holds { S.holds table.now steps.old self.old }
+        ensures unit { DoesUnit mutator_machine S.did self.old steps.old self.new steps.new }
+        ensures holds { S.holds table.now steps.new self.new }
+    {
+        if let MutatorPhase::Ready = self.phase {
+            if self.load_pause_word(op, steps, table) {
+                self.reach_barrier(op, steps, table);
+            } else {
+                self.finish(steps, table);
+            }
+        } else {
+            self.do_unit_by_phases(steps, table);
+        }
+    }
+
+    /// Does what is left of it, once the pause word was loaded.
+    #[inline(always)]
+    fn reach_barrier<T, S: Steps<Mutator, T>>(&mut self, op: Op, steps: &mut S, table: &T)
+        requires op { IsAskedIn self.old.phase op (op_now self.old) }
+        requires holds { S.holds table.now steps.old self.old }
+        ensures rest { Finishes mutator_machine S.did self.old steps.old self.new steps.new }
+        ensures holds { S.holds table.now steps.new self.new }
+    {
+        match self.phase {
+            MutatorPhase::Base { base } => {
+                if self.load_base(op, base, steps, table) {
+                    self.store(op, steps, table);
+                } else {
+                    self.finish(steps, table);
+                }
+            }
+            _ => self.finish(steps, table),
+        }
+    }
+
     /// One unit of an operation on a data word.
     #[inline(always)]
     fn do_on_datum<T, S: Steps<Mutator, T>>(&mut self, op: Op, steps: &mut S, table: &T)
@@ -307,8 +413,11 @@ impl Mutator {
     {
         match self.phase {
             MutatorPhase::Reference { base } => {
-                self.load_reference(op, base, steps, table);
-                self.tell_name(op, steps, table);
+                if self.load_reference(op, base, steps, table) {
+                    self.tell_name(op, steps, table);
+                } else {
+                    self.finish(steps, table);
+                }
             }
             _ => self.finish(steps, table),
         }
@@ -338,8 +447,8 @@ impl Mutator {
         }
     }
 
-    /// Does what is left of a `store` to a reference, or of a `swap`, as a call.
-    #[inline(never)]
+    /// Does what is left of a `store` to a reference, or of a `swap`, from the look at the bit of its field on.
+    #[inline(always)]
     fn store<T, S: Steps<Mutator, T>>(&mut self, op: Op, steps: &mut S, table: &T)
         requires op { IsAskedIn self.old.phase op (op_now self.old) }
         requires holds { S.holds table.now steps.old self.old }
@@ -347,9 +456,16 @@ impl Mutator {
         ensures holds { S.holds table.now steps.new self.new }
     {
         match self.phase {
-            MutatorPhase::Storing(_) => {
-                self.go_on_storing(op, steps, table);
-                self.store_after_look(op, steps, table);
+            MutatorPhase::Storing(ref machine) => {
+                if machine.has_begun() {
+                    if self.load_bit(steps, table) {
+                        self.store_after_look(op, steps, table);
+                    } else {
+                        self.store_on(op, steps, table);
+                    }
+                } else {
+                    self.store_on(op, steps, table);
+                }
             }
             _ => self.finish(steps, table),
         }
@@ -364,9 +480,17 @@ impl Mutator {
         ensures holds { S.holds table.now steps.new self.new }
     {
         match self.phase {
-            MutatorPhase::Storing(_) => {
-                self.go_on_storing(op, steps, table);
-                self.store_on(op, steps, table);
+            MutatorPhase::Storing(ref machine) => {
+                if machine.is_behind_barrier() {
+                    let last = machine.last();
+                    if self.store_behind_barrier(op, last, steps, table) {
+                        self.tell_name(op, steps, table);
+                    } else {
+                        self.finish(steps, table);
+                    }
+                } else {
+                    self.store_on(op, steps, table);
+                }
             }
             _ => self.finish(steps, table),
         }
@@ -389,8 +513,8 @@ impl Mutator {
         }
     }
 
-    /// Does what is left of a `store` to a reference, or of a `swap`, however many steps that is.
-    #[inline(always)]
+    /// Does what is left of a `store` to a reference, or of a `swap`, however many steps that is, as a call.
+    #[inline(never)]
     fn store_on<T, S: Steps<Mutator, T>>(&mut self, op: Op, steps: &mut S, table: &T)
         requires op { IsAskedIn self.old.phase op (op_now self.old) }
         requires holds { S.holds table.now steps.old self.old }
@@ -496,10 +620,29 @@ impl Mutator {
     {
         let header = steps.step(table, self);
         self.recall(op);
-        self.reach_field(base, header)
+        self.reach_field(op, base, header)
     }
 
-    /// Loads the reference that `load` asks for.
+    /// The same for an operation whose further steps are told by the machine of the store alone: nothing asks memory for the operation.
+    #[inline(always)]
+    fn load_base<T, S: Steps<Mutator, T>>(
+        &mut self,
+        op: Op,
+        base: Place,
+        steps: &mut S,
+        table: &T,
+    ) -> bool
+        requires op { op ≡ op_now self.old }
+        requires busy { IsBusy self.old (MutatorPhase.Base base) }
+        requires holds { S.holds table.now steps.old self.old }
+        ensures step { Does mutator_machine S.did self.old steps.old self.new steps.new }
+        ensures holds { S.holds table.now steps.new self.new }
+    {
+        let header = steps.step(table, self);
+        self.reach_field(op, base, header)
+    }
+
+    /// Loads the reference that `load` asks for. Whether the unit goes on.
     #[inline(always)]
     fn load_reference<T, S: Steps<Mutator, T>>(
         &mut self,
@@ -507,7 +650,7 @@ impl Mutator {
         base: Place,
         steps: &mut S,
         table: &T,
-    )
+    ) -> bool
         requires op { op ≡ op_now self.old }
         requires busy { IsBusy self.old (MutatorPhase.Reference base) }
         requires holds { S.holds table.now steps.old self.old }
@@ -515,7 +658,7 @@ impl Mutator {
         ensures holds { S.holds table.now steps.new self.new }
     {
         let reference = steps.step(table, self);
-        self.keep_reference(op, base, reference);
+        self.keep_reference(op, base, reference)
     }
 
     /// Loads the header of what was loaded or swapped out.
@@ -565,6 +708,37 @@ impl Mutator {
     {
         let old = steps.step(table, self);
         self.end_add(old);
+    }
+
+    /// Loads the word with the bit of the field that is stored to. Whether the bit was clear.
+    #[inline(always)]
+    fn load_bit<T, S: Steps<Mutator, T>>(&mut self, steps: &mut S, table: &T) -> bool
+        requires busy { (store : Storing) × IsBusy self.old (MutatorPhase.Storing store) × (store.phase ≡ StorePhase.Begun) }
+        requires holds { S.holds table.now steps.old self.old }
+        ensures step { Does mutator_machine S.did self.old steps.old self.new steps.new }
+        ensures holds { S.holds table.now steps.new self.new }
+    {
+        let old = steps.step(table, self);
+        self.look_at_bit(old)
+    }
+
+    /// Does the last step of the store or swap in progress, which the caller tells. Whether the unit goes on.
+    #[inline(always)]
+    fn store_behind_barrier<T, S: Steps<Mutator, T>>(
+        &mut self,
+        op: Op,
+        last: LastStep,
+        steps: &mut S,
+        table: &T,
+    ) -> bool
+        requires op { op ≡ op_now self.old }
+        requires busy { (store : Storing) × IsBusy self.old (MutatorPhase.Storing store) × (store.phase ≡ StorePhase.Logged) × (last ≡ store.last) }
+        requires holds { S.holds table.now steps.old self.old }
+        ensures step { Does mutator_machine S.did self.old steps.old self.new steps.new }
+        ensures holds { S.holds table.now steps.new self.new }
+    {
+        let old = steps.step(table, self);
+        self.end_store(op, last, old)
     }
 
     /// Does the next step of the store or swap in progress.

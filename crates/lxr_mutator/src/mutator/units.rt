@@ -282,9 +282,11 @@ impl Actor for Mutator {
             }
             MutatorPhase::Finished => {}
             MutatorPhase::Base { base } => {
-                self.reach_field(base, old);
+                self.reach_field(self.open_op(), base, old);
             }
-            MutatorPhase::Reference { base } => self.keep_reference(self.open_op(), base, old),
+            MutatorPhase::Reference { base } => {
+                self.keep_reference(self.open_op(), base, old);
+            }
             MutatorPhase::Referent { place } => self.name_referent(self.open_op(), place, old),
             MutatorPhase::Datum { .. } => self.tell_datum(old),
             MutatorPhase::Putting { .. } => self.end_put(),

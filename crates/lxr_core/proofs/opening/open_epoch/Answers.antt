@@ -1,4 +1,4 @@
-use Rattle.std.proofs.Common.{rules, ◌<◌, ◌^◌, length, sym, ap, subst}
+use Rattle.std.proofs.Common.{rules, ◌<◌, ◌^◌, ◌∙◌, length, sym, ap, subst}
 use Rattle.std.specs.List.{All}
 use Rattle.lxr_image_search.specs.declared.Wanted.TheVariants.{ToScan}
 use Rattle.lxr_image_search.specs.Search.{AvoidsFree}
@@ -6,7 +6,7 @@ use Rattle.lxr_mutator.specs.Mutators.{IsHeld}
 use Rattle.lxr_core.specs.Actors.{mutators_in}
 use Rattle.lxr_core.specs.Filling.{MayAllFill}
 use Rattle.lxr_core.specs.Starting.{HaveStarted, MayNameAll}
-use Rattle.lxr_core.proofs.OpenedLemmas.{grays_used, held_before, holds_at, may_all_fill, may_all_start, may_name_all, opened_at}
+use Rattle.lxr_core.proofs.OpenedLemmas.{grays_used, held_before, holds_at, may_all_fill, may_all_start, may_name_all, opened_traced, opened_untraced}
 use Rattle.lxr_core.proofs.opening.open_epoch.Goals as goal
 
 pub start_all-requires-clause-order : goal.start_all-requires-clause-order
@@ -35,11 +35,23 @@ fill_pockets-requires-clause-empty c =
     subst (λ l. MayAllFill l c.start_all.new.actors) (sym (ap (λ s. s.limits) rest))
     (may_all_fill c.requires.0 c.args.space.now c.args.actors.now c.start_all.new.actors c.requires.1 (subst (λ places. HaveStarted places c.args.actors.now c.start_all.new.actors (length c.args.actors.now)) registers c.start_all.ensures))
 
-pub returns-clause-opens : goal.returns-clause-opens
-returns-clause-opens c =
-    opened_at c.args.space.now c.put_cursor.new.self c.args.actors.now c.start_all.new.actors c.fill_pockets.new.actors c.fill_pockets.ensures.0 c.put_cursor.ensures c.start_all.ensures c.fill_pockets.ensures.1
+pub returns-then-is_some-clause-opens : goal.returns-then-is_some-clause-opens
+returns-then-is_some-clause-opens c =
+    opened_traced c.args.space.now c.put_cursor.new.self c.args.actors.now c.start_all.new.actors c.put_cursor.ensures c.start_all.ensures c.fill_pockets.new.actors c.fill_pockets.ensures.0 (sym c.is_some.ensures ∙ c.if-is_some.true)
+    c.fill_pockets.ensures.1
 
-pub returns-clause-execution : goal.returns-clause-execution
-returns-clause-execution c = λ b begins.
+pub returns-then-is_some-clause-execution : goal.returns-then-is_some-clause-execution
+returns-then-is_some-clause-execution c = λ b begins.
     let few : c.args.space.now.pauses < 2 ^ 32 = search rules in
-    holds_at b c.args.space.now c.put_cursor.new.self c.args.actors.now c.fill_pockets.new.actors few c.unnamed_are_nil.ensures (search rules) begins (returns-clause-opens c)
+    holds_at b c.args.space.now c.put_cursor.new.self c.args.actors.now c.fill_pockets.new.actors few c.unnamed_are_nil.ensures (search rules) begins (returns-then-is_some-clause-opens c)
+
+pub returns-else-is_some-clause-opens : goal.returns-else-is_some-clause-opens
+returns-else-is_some-clause-opens c =
+    let registers = ap (λ s. s.registers.items) c.put_cursor.ensures.rest in
+    opened_untraced c.args.space.now c.put_cursor.new.self c.args.actors.now c.start_all.new.actors c.put_cursor.ensures c.start_all.ensures (sym c.is_some.ensures ∙ c.if-is_some.false)
+    (may_all_fill c.requires.0 c.args.space.now c.args.actors.now c.start_all.new.actors c.requires.1 (subst (λ places. HaveStarted places c.args.actors.now c.start_all.new.actors (length c.args.actors.now)) registers c.start_all.ensures))
+
+pub returns-else-is_some-clause-execution : goal.returns-else-is_some-clause-execution
+returns-else-is_some-clause-execution c = λ b begins.
+    let few : c.args.space.now.pauses < 2 ^ 32 = search rules in
+    holds_at b c.args.space.now c.put_cursor.new.self c.args.actors.now c.start_all.new.actors few c.unnamed_are_nil.ensures (search rules) begins (returns-else-is_some-clause-opens c)

@@ -1,12 +1,12 @@
-use Rattle.std.proofs.Common.{◌+◌, ◌*◌, ◌≤◌, ◌⊎◌, sym, subst, ap, refl, is_some}
+use Rattle.std.proofs.Common.{◌+◌, ◌*◌, ◌<◌, ◌≤◌, ◌⊎◌, sym, subst, ap, refl, is_some}
 use Rattle.lxr_layout.specs.Objects.{FitsShape, word_count}
 use Rattle.lxr_layout.specs.Places.{first_word}
 use Rattle.lxr_layout.specs.declared.TheConstants.{WORDS_IN_BLOCK}
 use Rattle.lxr_image.specs.Spaces.{Turns, tables_of}
-use Rattle.lxr_image.specs.Tables.{changed}
+use Rattle.lxr_image.specs.Tables.{Tables, changed}
 use Rattle.lxr_blocks.specs.Placing.{IsFull, IsPlaced}
-use Rattle.lxr_pause_promote.specs.Copying.{with_words}
-use Rattle.lxr_pause_promote.proofs.CopyLemmas.{copy_has_room, evacuated_turns}
+use Rattle.lxr_pause_promote.specs.Copying.{IsUsedRow, with_words}
+use Rattle.lxr_pause_promote.proofs.CopyLemmas.{copy_has_room, copy_is_used, evacuated_turns}
 use Rattle.lxr_pause_promote.proofs.FewerLemmas.{fewer_both, still_short, turns_fewer}
 use Rattle.lxr_pause_promote.proofs.copying.young_evacuate_within.Goals as goal
 
@@ -39,6 +39,16 @@ copy_words-requires-clause-apart c =
     subst (λ z. (z + word_count c.object.result.1 ≤ c.word_of-2.result) ⊎ (c.word_of-2.result + word_count c.object.result.1 ≤ z)) (sym c.word_of.ensures)
     (subst (λ z. (first_word c.args.place.0 + word_count c.object.result.1 ≤ z) ⊎ (z + word_count c.object.result.1 ≤ first_word c.args.place.0)) (sym c.word_of-2.ensures)
     (subst (λ z. (first_word c.args.place.0 + word_count z.1 ≤ first_word c.in_ok-copy.copy.0) ⊎ (first_word c.in_ok-copy.copy.0 + word_count z.1 ≤ first_word c.args.place.0)) (sym e) apart))
+
+pub copy_words-requires-clause-used : goal.copy_words-requires-clause-used
+copy_words-requires-clause-used c = λ fields.
+    let e = c.object.ensures c.requires.kept.0 c.requires.kept.1 c.requires.kept.2.stands in
+    let placed = subst (λ z. IsPlaced c.args.space.now c.place.new.space z.0 z.1 c.in_ok-copy.copy) e c.in_ok-copy.ensures.placed in
+    let t : Tables = tables_of c.place.new.space in
+    let used = copy_is_used c.args.space.now c.place.new.space c.args.place c.in_ok-copy.copy c.requires.kept.0 c.requires.kept.1 c.requires.kept.2 placed (subst (λ z. 2 < word_count z.1) e fields) in (
+      subst (λ z. IsUsedRow t z (word_count c.object.result.1)) (sym c.word_of.ensures) (subst (λ z. IsUsedRow t (first_word c.args.place.0) (word_count z.1)) (sym e) used.0),
+      subst (λ z. IsUsedRow t z (word_count c.object.result.1)) (sym c.word_of-2.ensures) (subst (λ z. IsUsedRow t (first_word c.in_ok-copy.copy.0) (word_count z.1)) (sym e) used.1),
+    )
 
 pub returns-clause-none : goal.returns-clause-none
 returns-clause-none c = λ n shape is.

@@ -4,12 +4,17 @@ use Rattle.lxr_mutator.specs.Mutating.{rests_in}
 use Rattle.lxr_mutator.proofs.StraightLemmas.{still_asked}
 use Rattle.lxr_mutator.proofs.mutator.Mutator.store_after_look.Goals as goal
 
-pub go_on_storing-requires-clause-op : goal.go_on_storing-requires-clause-op
-go_on_storing-requires-clause-op g c = c.requires.op (ap (λ m. rests_in m.phase) (sym c.self.view_is) ∙ ap rests_in c.in-Storing.is)
+pub store_behind_barrier-requires-clause-op : goal.store_behind_barrier-requires-clause-op
+store_behind_barrier-requires-clause-op g c = c.requires.op (ap (λ m. rests_in m.phase) (sym c.self.view_is) ∙ ap rests_in c.in-Storing.is)
 
-pub store_on-requires-clause-op : goal.store_on-requires-clause-op
-store_on-requires-clause-op g c =
-    still_asked g.S.Steps.did _ _ _ _ c.args.op (c.requires.op (ap (λ m. rests_in m.phase) (sym c.self.view_is) ∙ ap rests_in c.in-Storing.is)) c.go_on_storing.ensures.step
+pub tell_name-requires-clause-op : goal.tell_name-requires-clause-op
+tell_name-requires-clause-op g c =
+    still_asked g.S.Steps.did _ _ _ _ c.args.op (c.requires.op (ap (λ m. rests_in m.phase) (sym c.self.view_is) ∙ ap rests_in c.in-Storing.is)) c.store_behind_barrier.ensures.step
 
-pub returns-in-Storing-clause-rest : goal.returns-in-Storing-clause-rest
-returns-in-Storing-clause-rest g c = goes_on (ap (λ m. rests_in m.phase) (sym c.self.view_is) ∙ ap rests_in c.in-Storing.is) c.go_on_storing.ensures.step c.store_on.ensures.rest
+pub returns-then-store_behind_barrier-clause-rest : goal.returns-then-store_behind_barrier-clause-rest
+returns-then-store_behind_barrier-clause-rest g c =
+    goes_on (ap (λ m. rests_in m.phase) (sym c.self.view_is) ∙ ap rests_in c.in-Storing.is) c.store_behind_barrier.ensures.step c.tell_name.ensures.rest
+
+pub returns-else-store_behind_barrier-clause-rest : goal.returns-else-store_behind_barrier-clause-rest
+returns-else-store_behind_barrier-clause-rest g c =
+    goes_on (ap (λ m. rests_in m.phase) (sym c.self.view_is) ∙ ap rests_in c.in-Storing.is) c.store_behind_barrier.ensures.step c.finish.ensures.rest
